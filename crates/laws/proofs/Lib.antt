@@ -1,0 +1,6 @@
+mod Find
+mod Kept
+mod Lookup
+mod Next
+mod Walk
+mod Worked

@@ -1,0 +1,9 @@
+mod Agree
+mod Finds
+mod Refusals
+mod Tallies
+mod Joins
+mod Fillings
+mod Lawfuls
+mod CoreLaws
+mod FillLaws

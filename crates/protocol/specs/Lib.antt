@@ -1,0 +1,9 @@
+pub mod Kinds
+pub mod Tallies
+pub mod Model
+pub mod CoreRows
+pub mod Refusals
+pub mod Lawful
+pub mod RowTests
+pub mod Meaning
+pub mod Filling

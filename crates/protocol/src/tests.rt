@@ -1,0 +1,406 @@
+//! The core against wayland.xml, and every refusal of a catalogue on an example.
+
+use crate::argument::AllowNull;
+use crate::argument::Argument;
+use crate::argument::ArgumentType;
+use crate::argument::ArgumentTypePartialEq;
+use crate::argument::check_for_signature;
+use crate::catalogue::Catalogue;
+use crate::catalogue::Core;
+use crate::catalogue::CoreCatalogue;
+use crate::catalogue::FilledCatalogue;
+use crate::catalogue::same_interface;
+use crate::catalogue::same_interface_or_anonymous;
+use crate::filled::Filled;
+use crate::fills::CatalogueError;
+use crate::interface::InterfaceBuf;
+use crate::interface::MessageBuf;
+use crate::interface::MessageDesc;
+use crate::refusal::Refusal;
+use std::alloc::AllocError;
+use std::alloc::Global;
+use std::test::*;
+
+/// A message as wayland.xml describes it.
+#[derive(Clone, Copy)]
+struct Described {
+    row: u32,
+    opcode: u16,
+    event: bool,
+    name: &'static [u8],
+    destructor: bool,
+    signature: &'static [ArgumentType],
+    child: Option<u32>,
+    rows: &'static [u32],
+}
+
+const NONE: Described = Described {
+    row: 0,
+    opcode: 0,
+    event: false,
+    name: b"",
+    destructor: false,
+    signature: &[],
+    child: None,
+    rows: &[],
+};
+
+/// Every message of wl_display, wl_registry and wl_callback in /usr/share/wayland/wayland.xml of Debian's
+/// libwayland-dev 1.21.0-1; none has a `since`, so it is 1. An `object` with no interface has row 0. The new_id of
+/// bind has no interface, so it goes over the wire as a string, a uint and a new_id.
+const WAYLAND_XML: [Described; 8] = [
+    Described {
+        row: 1,
+        name: b"sync",
+        signature: &[ArgumentType::NewId],
+        child: Some(3),
+        ..NONE
+    },
+    Described {
+        row: 1,
+        opcode: 1,
+        name: b"get_registry",
+        signature: &[ArgumentType::NewId],
+        child: Some(2),
+        ..NONE
+    },
+    Described {
+        row: 1,
+        event: true,
+        name: b"error",
+        signature: &[
+            ArgumentType::Object(AllowNull::No),
+            ArgumentType::Uint,
+            ArgumentType::Str(AllowNull::No),
+        ],
+        rows: &[0],
+        ..NONE
+    },
+    Described {
+        row: 1,
+        opcode: 1,
+        event: true,
+        name: b"delete_id",
+        signature: &[ArgumentType::Uint],
+        ..NONE
+    },
+    Described {
+        row: 2,
+        name: b"bind",
+        signature: &[
+            ArgumentType::Uint,
+            ArgumentType::Str(AllowNull::No),
+            ArgumentType::Uint,
+            ArgumentType::NewId,
+        ],
+        ..NONE
+    },
+    Described {
+        row: 2,
+        event: true,
+        name: b"global",
+        signature: &[
+            ArgumentType::Uint,
+            ArgumentType::Str(AllowNull::No),
+            ArgumentType::Uint,
+        ],
+        ..NONE
+    },
+    Described {
+        row: 2,
+        opcode: 1,
+        event: true,
+        name: b"global_remove",
+        signature: &[ArgumentType::Uint],
+        ..NONE
+    },
+    Described {
+        row: 3,
+        event: true,
+        name: b"done",
+        destructor: true,
+        signature: &[ArgumentType::Uint],
+        ..NONE
+    },
+];
+
+fn is_as_described(message: MessageDesc<'_>, described: Described) -> bool {
+    message.name == described.name
+        && message.since == 1
+        && message.is_destructor == described.destructor
+        && message.signature == described.signature
+        && message.child_interface == described.child
+        && message.arg_interfaces == described.rows
+}
+
+fn core_has(described: Described) -> bool {
+    let core = Core {};
+    let message = if described.event {
+        core.event(described.row, described.opcode)
+    } else {
+        core.request(described.row, described.opcode)
+    };
+    match message {
+        Some(message) => is_as_described(message, described),
+        None => false,
+    }
+}
+
+#[test]
+fn core_is_that_of_wayland_xml() -> Result<(), Fail> {
+    for message in WAYLAND_XML {
+        check(core_has(message))?;
+    }
+    Ok(())
+}
+
+// How many requests and events each row has: as many as the file has, and no more.
+#[test]
+fn core_has_no_other_message() -> Result<(), Fail> {
+    let core = Core {};
+    for (row, requests, events) in [(0, 0, 0), (1, 2, 2), (2, 1, 2), (3, 0, 1), (4, 0, 0)] {
+        check(core.request(row, requests).is_none() && core.event(row, events).is_none())?;
+    }
+    check(core.heading(4).is_none())
+}
+
+fn is_headed(row: u32, name: &[u8], version: u32) -> bool {
+    match (Core {}).heading(row) {
+        Some(heading) => heading.name == name && heading.version == version,
+        None => false,
+    }
+}
+
+#[test]
+fn core_headings() -> Result<(), Fail> {
+    check(is_headed(0, b"<anonymous>", 0))?;
+    check(is_headed(1, b"wl_display", 1))?;
+    check(is_headed(2, b"wl_registry", 1))?;
+    check(is_headed(3, b"wl_callback", 1))
+}
+
+#[test]
+fn counts_of_rows(rt: LibcRuntime) -> Result<(), Fail> {
+    for rows in [0, 3, 65, 4_294_967_295] {
+        match Filled::new(rt.alloc(), rows) {
+            Err(CatalogueError::Refused(refusal)) => check_eq(refusal.number(), 19)?,
+            _ => return Err(Fail::new("made")),
+        }
+    }
+    for rows in [4, 64] {
+        match Filled::new(rt.alloc(), rows) {
+            Ok(made) => check(made.heading(rows).is_none())?,
+            Err(_) => return Err(Fail::new("refused")),
+        }
+    }
+    Ok(())
+}
+
+fn message(
+    heap: Global,
+    name: &[u8],
+    signature: &[ArgumentType],
+    child: Option<u32>,
+    rows: &[u32],
+) -> Result<MessageBuf, AllocError> {
+    Ok(MessageBuf {
+        name: Vec::from_slice(heap, name)?,
+        signature: Vec::from_slice(heap, signature)?,
+        since: 1,
+        is_destructor: false,
+        child_interface: child,
+        arg_interfaces: Vec::from_slice(heap, rows)?,
+    })
+}
+
+// A row with `count` requests like the one described, and no events.
+fn row(heap: Global, name: &[u8], count: u32, like: Described) -> Result<InterfaceBuf, AllocError> {
+    let mut requests = Vec::new(heap);
+    for _ in 0..count {
+        let request = message(heap, like.name, like.signature, like.child, like.rows)?;
+        requests.push(request)?;
+    }
+    Ok(InterfaceBuf {
+        name: Vec::from_slice(heap, name)?,
+        version: 2,
+        requests,
+        events: Vec::new(heap),
+    })
+}
+
+const CONFIRM: Described = Described {
+    name: b"confirm",
+    signature: &[ArgumentType::Object(AllowNull::Yes), ArgumentType::NewId],
+    child: Some(5),
+    rows: &[4],
+    ..NONE
+};
+
+// A catalogue of 6 rows, of which 4 and 5 have the same name.
+fn panels(heap: Global) -> Result<Filled, Fail> {
+    let Ok(mut made) = Filled::new(heap, 6) else {
+        return Err(Fail::new("not made"));
+    };
+    if made.fill(4, row(heap, b"film_panel", 1, CONFIRM)?).is_err() {
+        return Err(Fail::new("row 4"));
+    }
+    if made.fill(5, row(heap, b"film_panel", 16, CONFIRM)?)
+        .is_err() {
+        return Err(Fail::new("row 5"));
+    }
+    Ok(made)
+}
+
+#[test]
+fn a_row_is_filled(rt: LibcRuntime) -> Result<(), Fail> {
+    let made = panels(rt.alloc())?;
+    let panel = made.heading(4).ok_or("row 4")?;
+    check(panel.name == b"film_panel" && panel.version == 2)?;
+    let confirm = made.request(4, 0).ok_or("request 0")?;
+    check(is_as_described(confirm, CONFIRM))?;
+    check(made.request(5, 15).is_some() && made.request(5, 16).is_none())
+}
+
+// Rows with equal names are the same interface, row 0 admits all, and a row may be filled again.
+#[test]
+fn names_tell_interfaces(rt: LibcRuntime) -> Result<(), Fail> {
+    let mut made = panels(rt.alloc())?;
+    check(same_interface(&made, 4, 5) && !same_interface(&made, 4, 1))?;
+    check(same_interface_or_anonymous(&made, 0, 4) && !same_interface_or_anonymous(&made, 4, 0))?;
+    check_eq(
+        refused(&mut made, 5, row(rt.alloc(), b"film_lamp", 0, NONE)?),
+        0,
+    )?;
+    check(!same_interface(&made, 4, 5))
+}
+
+fn refused(made: &mut Filled, number: u32, row: InterfaceBuf) -> u8 {
+    match made.fill(number, row) {
+        Err(refusal) => refusal.number(),
+        Ok(()) => 0,
+    }
+}
+
+#[test]
+fn rows_that_cannot_be_filled(rt: LibcRuntime) -> Result<(), Fail> {
+    let mut made = panels(rt.alloc())?;
+    for core in [0, 1, 2, 3] {
+        check_eq(
+            refused(&mut made, core, row(rt.alloc(), b"film_lamp", 0, NONE)?),
+            19,
+        )?;
+    }
+    check_eq(
+        refused(&mut made, 6, row(rt.alloc(), b"film_lamp", 0, NONE)?),
+        14,
+    )
+}
+
+#[test]
+fn names_that_break_a_law(rt: LibcRuntime) -> Result<(), Fail> {
+    let mut made = panels(rt.alloc())?;
+    for name in BAD_NAMES {
+        check_eq(refused(&mut made, 4, row(rt.alloc(), name, 0, NONE)?), 19)?;
+    }
+    // nothing changed, and the longest name is taken
+    check(same_interface(&made, 4, 5))?;
+    check_eq(refused(&mut made, 4, row(rt.alloc(), LONGEST, 0, NONE)?), 0)
+}
+
+#[test]
+fn messages_that_break_a_law(rt: LibcRuntime) -> Result<(), Fail> {
+    let mut made = panels(rt.alloc())?;
+    for broken in BROKEN {
+        check_eq(
+            refused(&mut made, 4, row(rt.alloc(), b"film_lamp", 1, broken)?),
+            19,
+        )?;
+    }
+    check_eq(
+        refused(&mut made, 4, row(rt.alloc(), b"film_lamp", 17, CONFIRM)?),
+        19,
+    )?;
+    check_eq(
+        refused(&mut made, 4, row(rt.alloc(), b"film_lamp", 1, WIDEST)?),
+        0,
+    )
+}
+
+/// Empty, one of the core's, one with a zero, and one of 33 bytes.
+const BAD_NAMES: [&[u8]; 7] = [
+    b"",
+    b"wl_display",
+    b"wl_registry",
+    b"wl_callback",
+    b"<anonymous>",
+    b"film\0panel",
+    b"123456789012345678901234567890123",
+];
+
+const LONGEST: &[u8] = b"12345678901234567890123456789012";
+
+/// A message with as many arguments as one may have.
+const WIDEST: Described = Described {
+    name: b"c",
+    signature: &[ArgumentType::Int; 8],
+    ..NONE
+};
+
+/// A message that breaks one law each.
+const BROKEN: [Described; 8] = [
+    Described {
+        name: b"",
+        ..CONFIRM
+    },
+    Described {
+        signature: &[ArgumentType::Int; 9],
+        rows: &[],
+        ..CONFIRM
+    },
+    Described {
+        rows: &[],
+        ..CONFIRM
+    },
+    Described {
+        rows: &[4, 4],
+        ..CONFIRM
+    },
+    Described {
+        signature: &[ArgumentType::NewId, ArgumentType::NewId],
+        rows: &[],
+        ..CONFIRM
+    },
+    Described {
+        child: None,
+        ..CONFIRM
+    },
+    Described {
+        child: Some(6),
+        ..CONFIRM
+    },
+    Described {
+        rows: &[6],
+        ..CONFIRM
+    },
+];
+
+#[test]
+fn kinds_and_signatures() -> Result<(), Fail> {
+    let strict = ArgumentType::Str(AllowNull::No);
+    check(strict.same_type(ArgumentType::Str(AllowNull::Yes)))?;
+    check(!ArgumentType::Int.same_type(ArgumentType::Uint))?;
+    let signature = [ArgumentType::Uint, strict];
+    let null: [Argument<u32, u32>; 2] = [Argument::Uint(7), Argument::Str(None)];
+    check(check_for_signature(&signature, &null))?;
+    check(!check_for_signature(&signature, &null[0..1]))?;
+    let other: [Argument<u32, u32>; 2] = [Argument::Uint(7), Argument::Array(1)];
+    check(!check_for_signature(&signature, &other))
+}
+
+#[test]
+fn refusals_by_number() -> Result<(), Fail> {
+    check_eq(Refusal::BadSize.number(), 1)?;
+    check_eq(Refusal::NoRow.number(), 14)?;
+    check_eq(Refusal::NoVacancy.number(), 16)?;
+    check_eq(Refusal::BreaksLaw.number(), 19)
+}
