@@ -3,7 +3,7 @@
 ghost use mathlib.Core.Path.{_≡_};
 ghost use Prim.Native.Nat.{_<_};
 ghost use Rattle.std.specs.Slices.{found};
-ghost use Rattle.map.specs.Map.{answerOf, dataAfter, dataAnswer, emptyMap, enterClient, enterServer, faultOf, findIn, insertAnswer, inserted, newAfter, newAnswer, newServer, nextAfter, nextServer, putAt, removed, serverPlaces};
+ghost use Rattle.map.specs.Map.{answerOf, dataAfter, dataAnswer, emptyMap, enterClient, enterServer, faultOf, findIn, insertAnswer, inserted, newAfter, newAnswer, newServer, nextAfter, nextServer, putAt, putClient, putServer, removed, serverPlaces};
 ghost use Rattle.places.specs.Places.{entryAt, firstVacant};
 use places::PlaceFault;
 use places::entry_at;
@@ -15,7 +15,6 @@ use places::look_at;
 mod named;
 #[cfg(test)]
 mod tests;
-
 
 /// The first id of the server's half: lower ids are the client's to give out.
 pub const SERVER_ID_LIMIT: u32 = 0xFF00_0000;
@@ -54,7 +53,7 @@ pub struct Object<D> {
 }
 
 /// What names an object within its client: all three parts must agree, so that a name outlived by its id names nothing.
-#[derive(Clone, Copy, PartialEq, Eq, Debug)]
+#[derive(Clone, Copy)]
 pub struct LocalId {
     pub id: u32,
     pub serial: u32,
@@ -146,15 +145,27 @@ impl<D: Copy> ObjectMap<D> {
             return;
         }
         if id < SERVER_ID_LIMIT {
-            let index = (id - 1) as usize;
-            if holds(&self.client_objects, index) {
-                self.client_objects[index] = place;
-            }
+            self.put_client((id - 1) as usize, place);
         } else {
-            let index = (id - SERVER_ID_LIMIT) as usize;
-            if holds(&self.server_objects, index) {
-                self.server_objects[index] = place;
-            }
+            self.put_server((id - SERVER_ID_LIMIT) as usize, place);
+        }
+    }
+
+    // The same at a place of the client's half.
+    fn put_client(&mut self, index: usize, place: Option<Object<D>>)
+        ensures { λ _. ⌜ now (self .exit) ≡ putClient (now (self .entry)) index place ⌝ }
+    {
+        if holds(&self.client_objects, index) {
+            self.client_objects[index] = place;
+        }
+    }
+
+    // The same at a place of the server's half.
+    fn put_server(&mut self, index: usize, place: Option<Object<D>>)
+        ensures { λ _. ⌜ now (self .exit) ≡ putServer (now (self .entry)) index place ⌝ }
+    {
+        if holds(&self.server_objects, index) {
+            self.server_objects[index] = place;
         }
     }
 }

@@ -3,6 +3,7 @@
 ghost use mathlib.Core.Bool.{Bool};
 ghost use mathlib.Core.Path.{_≡_};
 ghost use Rattle.protocol.specs.Tallies.{all, count as countOf};
+ghost use lib.Dec.{ltb};
 
 /// A test of items.
 pub trait Check<T> {
@@ -13,7 +14,7 @@ pub trait Check<T> {
 }
 
 /// Whether every item passes.
-pub(crate) fn all_pass<T, C: Check<T>>(items: &[T], test: &C) -> bool
+pub fn all_pass<T, C: Check<T>>(items: &[T], test: &C) -> bool
     ensures { λ r. ⌜ r ≡ all (C·Check .passes (now (test .entry))) (now (items .entry)) ⌝ }
 {
     for item in items {
@@ -25,7 +26,7 @@ pub(crate) fn all_pass<T, C: Check<T>>(items: &[T], test: &C) -> bool
 }
 
 /// How many items pass.
-pub(crate) fn count_passing<T, C: Check<T>>(items: &[T], test: &C) -> usize
+pub fn count_passing<T, C: Check<T>>(items: &[T], test: &C) -> usize
     ensures { λ r. ⌜ r ≡ countOf (C·Check .passes (now (test .entry))) (now (items .entry)) ⌝ }
 {
     let mut n = 0;
@@ -35,4 +36,16 @@ pub(crate) fn count_passing<T, C: Check<T>>(items: &[T], test: &C) -> usize
         }
     }
     n
+}
+
+/// Whether a byte is not zero.
+#[derive(Clone, Copy)]
+pub struct NotZero {}
+
+pub impl Check<u8> for NotZero as NotZeroCheck {
+    ghost passes = { λ _ b. ltb 0 b };
+
+    fn check(&self, b: &u8) -> bool {
+        *b > 0
+    }
 }

@@ -12,6 +12,8 @@ ghost use Rattle.protocol.specs.RowTests.{named, childExists, messageSound, ro
 ghost use Rattle.protocol.specs.Tallies.{all};
 use crate::argument::ArgumentType;
 use crate::checks::Check;
+use crate::checks::NotZero;
+use crate::checks::NotZeroCheck;
 use crate::checks::all_pass;
 use crate::checks::count_passing;
 use crate::core_interfaces::core_interface;
@@ -46,17 +48,6 @@ impl Check<ArgumentType> for NewIdKind as NewIdKindCheck {
 
     fn check(&self, kind: &ArgumentType) -> bool {
         matches!(*kind, ArgumentType::NewId)
-    }
-}
-
-#[derive(Clone, Copy)]
-struct NotZero {}
-
-impl Check<u8> for NotZero as NotZeroCheck {
-    ghost passes = { λ _ b. ltb 0 b };
-
-    fn check(&self, b: &u8) -> bool {
-        *b > 0
     }
 }
 

@@ -5,7 +5,7 @@
 
 pub mod argument;
 pub mod catalogue;
-mod checks;
+pub mod checks;
 pub mod core_interfaces;
 pub mod filled;
 pub mod fills;

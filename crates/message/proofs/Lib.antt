@@ -1,0 +1,3 @@
+mod Left
+mod Fits
+pub mod Laid

@@ -1,0 +1,4 @@
+pub mod Rings
+pub mod Shares
+pub mod Starts
+pub mod Lists

@@ -1,0 +1,4 @@
+mod At
+mod Lines
+mod Laws
+mod QueuedLaws
