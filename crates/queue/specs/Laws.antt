@@ -12,6 +12,7 @@ abbrev pub popped : {A : Type 0} → ℕ → List A → List A
 popped zero xs = xs
 popped (suc n) xs = popped n (others xs)
 
+-- items leave in the order in which they came, a full queue refuses, and a push moves no item that waits
 pub record QueueLaws (T : Type 0) : Type 0 where
   -- first in, first out: an item pushed where there is room is the next to leave once all that were there before it have left
   pub in-turn : (room : ℕ) (x : T) (xs : List T) → length xs < room → front (popped (length xs) (within-room room x xs)) ≡ Some x

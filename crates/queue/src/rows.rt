@@ -20,7 +20,8 @@ ghost use mathlib.Core.Bool.{cond};
 ghost use mathlib.Core.List.{[]};
 ghost use mathlib.Core.Path.{_≡_};
 
-// Every mark says that nothing waits.
+// Makes every mark say that nothing waits, since what a lent mark held could name
+// cells that were never filled.
 fn reset(marks: &mut [Mark])
     ensures { λ _. ⌜ now (marks .exit) ≡ replicate (size (now (marks .entry))) fresh ⌝ }
 {
@@ -128,7 +129,7 @@ impl<'a, T: Copy> Queues<'a, T> {
         }
     }
 
-    /// How many items wait at the place.
+    /// How many items wait at the place: none where there is no such place.
     pub fn len(&self, place: usize) -> usize
         ensures { λ r. ⌜ r ≡ size (items-at (now (self .entry)) place) ⌝ }
     {
@@ -145,7 +146,8 @@ impl<'a, T: Copy> Queues<'a, T> {
         self.get(place, 0)
     }
 
-    /// The item at the place that has `index` items before it.
+    /// The item at the place that has `index` items before it, so that what waits
+    /// can be looked through without taking it out.
     pub fn get(&self, place: usize, index: usize) -> Option<T>
         ensures { λ r. ⌜ r ≡ nth (items-at (now (self .entry)) place) index ⌝ }
     {

@@ -68,6 +68,14 @@ module _ (e : EventModel) (l : Line) where
   limit-way false true = refl
   limit-way false false = refl
 
+  flushed-way : (a b : Bool) → flushed (after a b) ≡ flushed l
+  flushed-way true b = refl
+  flushed-way false true = refl
+  flushed-way false false = refl
+
+  pub flushed-same : flushed (written e l) ≡ flushed l
+  flushed-same = flushed-way (eqb (l .allowance) 0) (sendable e)
+
   pub limit-kept : written e l .limit ≡ l .limit
   limit-kept = limit-way (eqb (l .allowance) 0) (sendable e)
 
@@ -100,6 +108,7 @@ line-laws = record {
   sendable-taken = λ e l h s.
       cond-false (eqb (l .allowance) 0) Refused (cond (sendable e) Taken BadSize) (ne-eqb (l .allowance) 0 (λ z. omega arith)) ∙ cond-true (sendable e) Taken BadSize s;
   taken-carried = λ e l h. ap (λ (x : Line). length (x .events)) (taken e l h);
+  written-flushed = flushed-same;
   flushed-empty = λ l. refl;
   flushed-allowance = λ l. refl;
   opened-empty = λ l. (refl, refl, refl);

@@ -22,6 +22,7 @@ pub record LineLaws : Type 0 where
   pub sendable-taken : (e : EventModel) (l : Line) → 0 < l .allowance → sendable e ≡ true → writeAnswer e l ≡ Taken
   -- written and then flushed: one more is carried, and the whole limit is there again
   pub taken-carried : (e : EventModel) (l : Line) → writeAnswer e l ≡ Taken → carried (written e l) ≡ length (l .events ++ e ∷ [])
+  pub written-flushed : (e : EventModel) (l : Line) → flushed (written e l) ≡ flushed l
   pub flushed-empty : (l : Line) → carried (flushed l) ≡ 0
   pub flushed-allowance : (l : Line) → flushed l .allowance ≡ l .limit
   pub opened-empty : (l : Line) → (opened l .requests ≡ []) × (opened l .events ≡ []) × (opened l .allowance ≡ l .limit)
