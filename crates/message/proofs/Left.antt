@@ -45,3 +45,12 @@ nth-in xs n i d h l =
 
 pub nth-past : {A : Type 0} (xs : List A) (n i : ℕ) → length (take n xs) ≤ i → None ≡ nth (take n xs) i
 nth-past xs n i h = sym (past (take n xs) i h)
+
+pub dropped-first : {A : Type 0} (xs : List A) (n : ℕ) → nth (drop n xs) 0 ≡ nth xs n
+dropped-first [] zero = refl
+dropped-first [] (suc n) = refl
+dropped-first (x ∷ xs) zero = refl
+dropped-first (x ∷ xs) (suc n) = dropped-first xs n
+
+pub dropped-all : {A : Type 0} (xs : List A) (n : ℕ) → length xs ≤ n → nth (drop n xs) 0 ≡ None
+dropped-all xs n h = dropped-first xs n ∙ past xs n h

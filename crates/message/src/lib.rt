@@ -13,6 +13,7 @@ pub use event::Event;
 pub use part::Part;
 pub use part::bytes_of;
 pub use reader::Reader;
+pub use reader::reader_laws;
 ghost use Rattle.message.specs.Meaning.{said, overlaid};
 ghost use lib.ListN.{length, take};
 ghost use mathlib.Core.Path.{_≡_};

@@ -7,7 +7,7 @@ ghost use Rattle.std.specs.Options.{mapped};
 ghost use Rattle.std.specs.Slices.{found};
 ghost use Rattle.std.specs.shelf.Maps.{nth};
 ghost use Rattle.message.specs.Meaning.{meaning, meanings};
-ghost use Rattle.message.specs.Reading.{left, borrowed};
+ghost use Rattle.message.specs.Reading.{left, borrowed, ReaderLaws};
 use crate::Message;
 use crate::Part;
 use crate::bytes_of;
@@ -79,3 +79,8 @@ fn read_from<'a>(argument: Argument<u32, Part>, body: &'a [u8]) -> Argument<u32,
         Argument::Fd(x) => Argument::Fd(x),
     }
 }
+
+/// A reader gives every argument in order, and then none: the laws stand.
+pub fn reader_laws()
+    ensures { λ _. ⌜ ReaderLaws ⌝ }
+{}

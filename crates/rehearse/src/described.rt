@@ -82,16 +82,24 @@ fn add_kind(message: &mut MessageBuf, word: &str) -> Result<bool, AllocError> {
 }
 
 fn kind_of(word: &str) -> Option<(ArgumentType, Option<u32>)> {
+    match kind_without_row(word) {
+        Some(kind) => Some((kind, None)),
+        None => object_of(word),
+    }
+}
+
+/// The kind that a word names, of those that go with no row.
+pub fn kind_without_row(word: &str) -> Option<ArgumentType> {
     match word {
-        "int" => Some((ArgumentType::Int, None)),
-        "uint" => Some((ArgumentType::Uint, None)),
-        "fixed" => Some((ArgumentType::Fixed, None)),
-        "str" => Some((ArgumentType::Str(AllowNull::No), None)),
-        "str?" => Some((ArgumentType::Str(AllowNull::Yes), None)),
-        "new_id" => Some((ArgumentType::NewId, None)),
-        "array" => Some((ArgumentType::Array, None)),
-        "fd" => Some((ArgumentType::Fd, None)),
-        _ => object_of(word),
+        "int" => Some(ArgumentType::Int),
+        "uint" => Some(ArgumentType::Uint),
+        "fixed" => Some(ArgumentType::Fixed),
+        "str" => Some(ArgumentType::Str(AllowNull::No)),
+        "str?" => Some(ArgumentType::Str(AllowNull::Yes)),
+        "new_id" => Some(ArgumentType::NewId),
+        "array" => Some(ArgumentType::Array),
+        "fd" => Some(ArgumentType::Fd),
+        _ => None,
     }
 }
 

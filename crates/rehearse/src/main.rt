@@ -1,26 +1,24 @@
 //! Runs a session script from standard input: one call a line in, one answer a line out.
 
+mod arguments;
 mod command;
 mod described;
+mod lines;
 mod session;
 #[cfg(test)]
 mod tests;
 mod texts;
 mod views;
+mod wires;
 mod words;
 
-use session::Session;
 use std::io;
 
 fn main(rt: LibcRuntime) -> io::Result<()> {
-    let mut session = Session::new();
-    let mut number: u64 = 0;
+    // a request's texts stay in its line until the request is read, so all lines are kept
+    let mut script = Vec::new(rt.alloc());
     for line in rt.lines(rt.alloc()) {
-        number = number.saturating_add(1);
-        let line = line?;
-        if let Some(answer) = session.answer(rt.alloc(), number, line.as_str())? {
-            println!(rt, "{answer}")?;
-        }
+        script.push(line?)?;
     }
-    Ok(())
+    lines::run(&rt, &script)
 }

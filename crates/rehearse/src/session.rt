@@ -1,14 +1,11 @@
 //! A session: one client's objects and a catalogue, call by call.
 
 use crate::command::Command;
-use crate::command::Mistake;
 use crate::command::NewObject;
-use crate::command::read_command;
 use crate::texts::Mark;
 use crate::texts::MarkDisplay;
 use crate::texts::fault_text;
 use crate::texts::refusal_text;
-use crate::texts::usage;
 use crate::views;
 use map::InvalidId;
 use map::LocalId;
@@ -42,21 +39,8 @@ impl Session {
         }
     }
 
-    /// The answer to a line, or none where the line is empty or a comment. A line that is no call changes nothing.
-    pub fn answer(
-        &mut self,
-        heap: Global,
-        number: u64,
-        line: &str,
-    ) -> Result<Option<String>, AllocError> {
-        match read_command(heap, line) {
-            Ok(None) => Ok(None),
-            Ok(Some(command)) => Ok(Some(self.perform(heap, command)?)),
-            Err(mistake) => Ok(Some(mistaken(heap, number, mistake)?)),
-        }
-    }
-
-    fn perform(&mut self, heap: Global, command: Command) -> Result<String, AllocError> {
+    /// Makes a call and says what came of it.
+    pub fn perform(&mut self, heap: Global, command: Command) -> Result<String, AllocError> {
         match command {
             Command::Enter(id, object) => self.enter(heap, id, object),
             Command::Create(object) => self.create(heap, object),
@@ -208,24 +192,9 @@ fn shown(heap: Global, id: u32, object: Object<ObjectData>) -> Result<String, Al
     )
 }
 
-fn refused(heap: Global, refusal: Refusal) -> Result<String, AllocError> {
+/// The answer where a call was refused.
+pub fn refused(heap: Global, refusal: Refusal) -> Result<String, AllocError> {
     let number = refusal.number();
     let text = refusal_text(refusal);
     format!(heap, "refused {number}: {text}")
-}
-
-fn mistaken(heap: Global, number: u64, mistake: Mistake) -> Result<String, AllocError> {
-    match mistake {
-        Mistake::Verb => {
-            format!(
-                heap,
-                "line {number}: expected enter, create, find, look, set, remove, next, catalogue, fill, row, request, event, same or admits"
-            )
-        }
-        Mistake::Usage(verb) => {
-            let usage = usage(verb);
-            format!(heap, "line {number}: expected {usage}")
-        }
-        Mistake::NoMemory => Err(AllocError),
-    }
 }

@@ -27,6 +27,23 @@ pub fn usage(verb: Verb) -> &'static str {
         Verb::Event => "event ROW OPCODE",
         Verb::Same => "same ROW ROW",
         Verb::Admits => "admits WANTED GIVEN",
+        Verb::Wire => {
+            "wire queue PLACES REQUESTS EVENTS or wire metered OWN PLACES REQUESTS EVENTS, with 1 to 64 places, and 0 to 256 cells of each kind"
+        }
+        Verb::Put => {
+            "put PLACE SENDER OPCODE ARG.., with at most 8 of int:N, uint:N, fixed:N, str:TEXT, str, object:ID, new_id:ID, array:TEXT and fd:N"
+        }
+        Verb::Break => "break PLACE",
+        Verb::Head => "head PLACE",
+        Verb::Read => {
+            "read PLACE KINDS, where KINDS is - or a list with commas of int, uint, fixed, str, str?, object, object?, new_id, array and fd"
+        }
+        Verb::Write => {
+            "write PLACE SENDER OPCODE ARG.., with int:N, uint:N, fixed:N, str:TEXT, str, object:ID, new_id:ID, array:TEXT and fd:N"
+        }
+        Verb::Flush => "flush PLACE",
+        Verb::Open => "open PLACE",
+        Verb::Events => "events PLACE",
     }
 }
 
