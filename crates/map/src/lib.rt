@@ -13,8 +13,6 @@ use places::holds;
 use places::look_at;
 
 mod named;
-#[cfg(test)]
-mod tests;
 
 /// The first id of the server's half: lower ids are the client's to give out.
 pub const SERVER_ID_LIMIT: u32 = 0xFF00_0000;

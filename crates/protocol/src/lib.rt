@@ -12,5 +12,3 @@ pub mod fills;
 pub mod interface;
 mod laws;
 pub mod refusal;
-#[cfg(test)]
-mod tests;

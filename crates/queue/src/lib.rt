@@ -11,8 +11,6 @@
 
 mod rows;
 mod single;
-#[cfg(test)]
-mod tests;
 
 ghost use Rattle.queue.specs.Laws.{QueueLaws};
 ghost use Rattle.queue.specs.Marks.{Sound};

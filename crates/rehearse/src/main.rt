@@ -5,8 +5,6 @@ mod command;
 mod described;
 mod lines;
 mod session;
-#[cfg(test)]
-mod tests;
 mod texts;
 mod views;
 mod wires;

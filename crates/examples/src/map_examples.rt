@@ -1,7 +1,22 @@
 //! What the map does on examples.
 
-use super::*;
+use map::DataMark;
+use map::InvalidId;
+use map::LocalId;
+use map::MapFault;
+use map::Object;
+use map::ObjectData;
+use map::ObjectMap;
+use map::SERVER_ID_LIMIT;
 use std::test::*;
+use map::InvalidIdDebug;
+use map::InvalidIdPartialEq;
+use map::MapFaultDebug;
+use map::MapFaultPartialEq;
+use map::ObjectDataDebug;
+use map::ObjectDataPartialEq;
+use map::ObjectDebug;
+use map::ObjectPartialEq;
 
 fn object(row: u32, serial: u32) -> Object<ObjectData> {
     Object {

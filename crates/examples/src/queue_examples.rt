@@ -1,6 +1,8 @@
 //! What the queues do, by example.
 
-use super::*;
+use queue::Mark;
+use queue::Queue;
+use queue::Queues;
 use std::test::*;
 
 #[test]
