@@ -2,21 +2,21 @@
 
 use map::DataMark;
 use map::InvalidId;
-use map::LocalId;
-use map::MapFault;
-use map::Object;
-use map::ObjectData;
-use map::ObjectMap;
-use map::SERVER_ID_LIMIT;
-use std::test::*;
 use map::InvalidIdDebug;
 use map::InvalidIdPartialEq;
+use map::LocalId;
+use map::MapFault;
 use map::MapFaultDebug;
 use map::MapFaultPartialEq;
+use map::Object;
+use map::ObjectData;
 use map::ObjectDataDebug;
 use map::ObjectDataPartialEq;
 use map::ObjectDebug;
+use map::ObjectMap;
 use map::ObjectPartialEq;
+use map::SERVER_ID_LIMIT;
+use std::test::*;
 
 fn object(row: u32, serial: u32) -> Object<ObjectData> {
     Object {
