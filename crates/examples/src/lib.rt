@@ -3,6 +3,8 @@
 #[cfg(test)]
 mod catalogue_examples;
 #[cfg(test)]
+mod core_examples;
+#[cfg(test)]
 mod map_examples;
 #[cfg(test)]
 mod queue_examples;
