@@ -90,12 +90,27 @@ fn writing_text(writing: Writing) -> &'static str {
     }
 }
 
+fn say(rt: &LibcRuntime, what: &str, answer: &str) -> Result<(), AnyError> {
+    println!(rt, "{what}: {answer}")?;
+    Ok(())
+}
+
+fn show(rt: &LibcRuntime, count: usize, first: u8, second: u8) -> Result<(), AnyError> {
+    println!(rt, "arguments {count}, body begins {first} {second}")?;
+    Ok(())
+}
+
+fn carry(rt: &LibcRuntime, count: usize) -> Result<(), AnyError> {
+    println!(rt, "carried {count}")?;
+    Ok(())
+}
+
 /// Reads, writes until the wire refuses, flushes and goes on.
 pub fn run<W: Wire>(rt: &LibcRuntime, wire: &mut W) -> Result<(), AnyError> {
     reads(rt, wire)?;
     writes(rt, wire)?;
     wire.open(1);
-    println!(rt, "head after open: {}", head_text(wire.head(1)))?;
+    say(rt, "head after open", head_text(wire.head(1)))?;
     Ok(())
 }
 
@@ -106,58 +121,49 @@ fn reads<W: Wire>(rt: &LibcRuntime, wire: &mut W) -> Result<(), AnyError> {
     };
     let mut body = [0; 4096];
     let text = [ArgumentType::Str(AllowNull::No)];
-    println!(rt, "head: {}", head_text(wire.head(1)))?;
-    println!(
+    say(rt, "head", head_text(wire.head(1)))?;
+    say(
         rt,
-        "into 8 bytes: {}",
-        reading_text(wire.read(1, &text, &mut message, &mut body[0..8]))
+        "into 8 bytes",
+        reading_text(wire.read(1, &text, &mut message, &mut body[0..8])),
     )?;
-    println!(
+    say(
         rt,
-        "as a number: {}",
-        reading_text(wire.read(1, &[ArgumentType::Uint], &mut message, &mut body))
+        "as a number",
+        reading_text(wire.read(1, &[ArgumentType::Uint], &mut message, &mut body)),
     )?;
-    println!(
+    say(
         rt,
-        "as a text: {}",
-        reading_text(wire.read(1, &text, &mut message, &mut body))
+        "as a text",
+        reading_text(wire.read(1, &text, &mut message, &mut body)),
     )?;
-    println!(
+    show(rt, message.count, body[0], body[1])?;
+    say(
         rt,
-        "arguments {}, body begins {} {}",
-        message.count, body[0], body[1]
+        "again",
+        reading_text(wire.read(1, &text, &mut message, &mut body)),
     )?;
-    println!(
-        rt,
-        "again: {}",
-        reading_text(wire.read(1, &text, &mut message, &mut body))
-    )?;
-    println!(rt, "head: {}", head_text(wire.head(1)))?;
-    println!(rt, "head of another place: {}", head_text(wire.head(0)))?;
+    say(rt, "head", head_text(wire.head(1)))?;
+    say(rt, "head of another place", head_text(wire.head(0)))?;
     Ok(())
 }
 
 fn writes<W: Wire>(rt: &LibcRuntime, wire: &mut W) -> Result<(), AnyError> {
-    println!(
+    say(
         rt,
-        "a zero in a text: {}",
-        writing_text(wire.write(1, &zero_text()))
+        "a zero in a text",
+        writing_text(wire.write(1, &zero_text())),
     )?;
     for number in 0..5 {
-        println!(
-            rt,
-            "event {}: {}",
-            number,
-            writing_text(wire.write(1, &event(number)))
-        )?;
+        say(rt, "event", writing_text(wire.write(1, &event(number))))?;
     }
-    println!(rt, "carried {}", wire.flush(1))?;
-    println!(
+    carry(rt, wire.flush(1))?;
+    say(
         rt,
-        "after the flush: {}",
-        writing_text(wire.write(1, &event(9)))
+        "after the flush",
+        writing_text(wire.write(1, &event(9))),
     )?;
-    println!(rt, "at place 3: {}", writing_text(wire.write(3, &event(9))))?;
-    println!(rt, "carried {}", wire.flush(1))?;
+    say(rt, "at place 3", writing_text(wire.write(3, &event(9))))?;
+    carry(rt, wire.flush(1))?;
     Ok(())
 }

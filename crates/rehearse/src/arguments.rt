@@ -192,7 +192,7 @@ fn argument_text(heap: Global, argument: Argument<u32, &[u8]>) -> Result<String,
         Argument::Int(number) => format!(heap, "int:{number}"),
         Argument::Uint(number) => format!(heap, "uint:{number}"),
         Argument::Fixed(number) => format!(heap, "fixed:{number}"),
-        Argument::Str(None) => format!(heap, "str"),
+        Argument::Str(None) => String::from_str(heap, "str"),
         Argument::Str(Some(text)) => {
             let text = Name(text);
             format!(heap, "str:{text}")

@@ -80,28 +80,28 @@ impl Session {
         let serial = self.next_serial();
         match self.objects.server_insert_new(object.with_serial(serial)) {
             Some(id) => format!(heap, "entered {id} serial {serial}"),
-            None => format!(heap, "not entered: full"),
+            None => String::from_str(heap, "not entered: full"),
         }
     }
 
     fn find(&self, heap: Global, id: u32) -> Result<String, AllocError> {
         match self.objects.find(id) {
             Some(object) => shown(heap, id, object),
-            None => format!(heap, "none"),
+            None => String::from_str(heap, "none"),
         }
     }
 
     fn look(&self, heap: Global, name: LocalId) -> Result<String, AllocError> {
         match self.objects.lookup(name) {
             Ok(object) => shown(heap, name.id, object),
-            Err(InvalidId) => format!(heap, "invalid id"),
+            Err(InvalidId) => String::from_str(heap, "invalid id"),
         }
     }
 
     fn set(&mut self, heap: Global, name: LocalId, number: u32) -> Result<String, AllocError> {
         match self.objects.set_mark(name, map::DataMark::Number(number)) {
-            Ok(()) => format!(heap, "set"),
-            Err(InvalidId) => format!(heap, "invalid id"),
+            Ok(()) => String::from_str(heap, "set"),
+            Err(InvalidId) => String::from_str(heap, "invalid id"),
         }
     }
 
@@ -111,14 +111,14 @@ impl Session {
         if there {
             format!(heap, "removed {id}")
         } else {
-            format!(heap, "none")
+            String::from_str(heap, "none")
         }
     }
 
     fn next(&self, heap: Global, id: u32) -> Result<String, AllocError> {
         match self.objects.next(id) {
             Some(next) => format!(heap, "{next}"),
-            None => format!(heap, "none"),
+            None => String::from_str(heap, "none"),
         }
     }
 }
@@ -137,7 +137,7 @@ impl Session {
 
     fn fill(&mut self, heap: Global, number: u32, row: InterfaceBuf) -> Result<String, AllocError> {
         let Some(catalogue) = &mut self.catalogue else {
-            return format!(heap, "no catalogue was made");
+            return String::from_str(heap, "no catalogue was made");
         };
         match catalogue.fill(number, row) {
             Ok(()) => format!(heap, "filled {number}"),

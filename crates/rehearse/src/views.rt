@@ -18,7 +18,7 @@ pub fn row<C: Catalogue>(heap: Global, catalogue: &C, row: u32) -> Result<String
             let version = heading.version;
             format!(heap, "row {row} {name} version {version}")
         }
-        None => format!(heap, "none"),
+        None => String::from_str(heap, "none"),
     }
 }
 
@@ -30,7 +30,7 @@ pub fn request<C: Catalogue>(
 ) -> Result<String, AllocError> {
     match catalogue.request(row, opcode) {
         Some(desc) => message(heap, desc),
-        None => format!(heap, "none"),
+        None => String::from_str(heap, "none"),
     }
 }
 
@@ -42,7 +42,7 @@ pub fn event<C: Catalogue>(
 ) -> Result<String, AllocError> {
     match catalogue.event(row, opcode) {
         Some(desc) => message(heap, desc),
-        None => format!(heap, "none"),
+        None => String::from_str(heap, "none"),
     }
 }
 
@@ -66,9 +66,9 @@ pub fn admits<C: Catalogue>(
 
 fn yes_or_no(heap: Global, yes: bool) -> Result<String, AllocError> {
     if yes {
-        format!(heap, "yes")
+        String::from_str(heap, "yes")
     } else {
-        format!(heap, "no")
+        String::from_str(heap, "no")
     }
 }
 

@@ -53,7 +53,7 @@ pub impl<'b> Serves<'b> for NoWire as ServesNone {
         _line: &'b str,
         _call: WireCall,
     ) -> Result<String, AllocError> {
-        format!(heap, "no wire was made")
+        String::from_str(heap, "no wire was made")
     }
 }
 
@@ -120,7 +120,7 @@ fn put<'b>(
     request: Request<'b>,
 ) -> Result<String, AllocError> {
     match wire.put(place, request) {
-        Ok(()) => format!(heap, "put"),
+        Ok(()) => String::from_str(heap, "put"),
         Err(refusal) => refused(heap, refusal),
     }
 }
@@ -131,7 +131,7 @@ fn set_broken(
     place: usize,
 ) -> Result<String, AllocError> {
     match wire.set_broken(place) {
-        Ok(()) => format!(heap, "broken"),
+        Ok(()) => String::from_str(heap, "broken"),
         Err(refusal) => refused(heap, refusal),
     }
 }
@@ -178,7 +178,7 @@ fn on_wire<W: Wire>(
         }
         CommonCall::Open(place) => {
             wire.open(place);
-            format!(heap, "opened")
+            String::from_str(heap, "opened")
         }
     }
 }
@@ -186,8 +186,8 @@ fn on_wire<W: Wire>(
 fn head(heap: Global, head: Head) -> Result<String, AllocError> {
     match head {
         Head::Request(sender, opcode) => format!(heap, "request {sender} {opcode}"),
-        Head::Broken => format!(heap, "broken"),
-        Head::Nothing => format!(heap, "nothing"),
+        Head::Broken => String::from_str(heap, "broken"),
+        Head::Nothing => String::from_str(heap, "nothing"),
     }
 }
 
@@ -204,16 +204,16 @@ fn read<W: Wire>(
             let before = if message.count == 0 { "read" } else { "read " };
             shown(heap, *message, body, before, " ")
         }
-        Reading::Malformed => format!(heap, "malformed"),
-        Reading::Nothing => format!(heap, "nothing"),
-        Reading::Short => format!(heap, "short"),
+        Reading::Malformed => String::from_str(heap, "malformed"),
+        Reading::Nothing => String::from_str(heap, "nothing"),
+        Reading::Short => String::from_str(heap, "short"),
     }
 }
 
 fn written(heap: Global, writing: Writing) -> Result<String, AllocError> {
     match writing {
-        Writing::Taken => format!(heap, "taken"),
-        Writing::Refused => format!(heap, "refused"),
-        Writing::BadSize => format!(heap, "too large"),
+        Writing::Taken => String::from_str(heap, "taken"),
+        Writing::Refused => String::from_str(heap, "refused"),
+        Writing::BadSize => String::from_str(heap, "too large"),
     }
 }
