@@ -11,7 +11,7 @@ use std::test::*;
 
 /// A message as wayland.xml describes it.
 #[derive(Clone, Copy)]
-pub struct Described {
+pub(crate) struct Described {
     pub row: u32,
     pub opcode: u16,
     pub event: bool,
@@ -22,7 +22,7 @@ pub struct Described {
     pub rows: &'static [u32],
 }
 
-pub const NONE: Described = Described {
+pub(crate) const NONE: Described = Described {
     row: 0,
     opcode: 0,
     event: false,
@@ -112,7 +112,7 @@ const WAYLAND_XML: [Described; 8] = [
     },
 ];
 
-pub fn is_as_described(message: MessageDesc<'_>, described: Described) -> bool {
+pub(crate) fn is_as_described(message: MessageDesc<'_>, described: Described) -> bool {
     message.name == described.name
         && message.since == 1
         && message.is_destructor == described.destructor
