@@ -1,5 +1,7 @@
 //! What the libraries do on examples. The tests stand in a crate of their own, since a crate with tests is proved twice.
 
+#![tactic(auto)]
+
 #[cfg(test)]
 mod catalogue_examples;
 #[cfg(test)]

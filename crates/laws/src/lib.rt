@@ -2,6 +2,8 @@
 //! theorem is asked for only where a contract names it. They stand apart from the map's code, so that a check of the code
 //! does not prove them again.
 
+#![tactic(auto)]
+
 ghost use Rattle.laws.specs.Cases.{Cases};
 ghost use Rattle.laws.specs.FindLaws.{FindLaws};
 ghost use Rattle.laws.specs.LengthLaws.{LengthLaws};

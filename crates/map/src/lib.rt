@@ -1,5 +1,7 @@
 //! The objects of one client, by id, for any kind of data, and the names by which the server holds on to an object.
 
+#![tactic(auto)]
+
 ghost use Rattle.std.specs.Prelude.{◌≡◌, ◌<◌, IfSome};
 ghost use Rattle.map.specs.Map.{answer_of, data_after, data_answer, empty_map, enter_client, enter_server, fault_of, find_in, insert_answer, inserted, new_after, new_answer, new_server, next_after, next_server, put_at, put_client, put_server, removed, server_places};
 ghost use Rattle.places.specs.Places.{entry_at, first_vacant};

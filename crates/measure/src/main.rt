@@ -2,6 +2,8 @@
 //!
 //! What is printed on standard output is fixed by the rules of a wire, and is compared in the gate.
 
+#![tactic(auto)]
+
 mod exchange;
 mod timing;
 

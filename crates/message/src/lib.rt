@@ -2,6 +2,8 @@
 //!
 //! Everything has a fixed size, in memory of the caller's: nothing here allocates.
 
+#![tactic(auto)]
+
 mod copies;
 mod event;
 mod part;

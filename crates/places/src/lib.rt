@@ -1,6 +1,8 @@
 //! Tables of places: where a new record goes, and whether a record may be entered at a named place. Written once
 //! for every kind of record.
 
+#![tactic(auto)]
+
 ghost use Rattle.std.specs.Prelude.{◌≡◌, ◌<◌, ◌≤◌, T as Holds, length, is_some, IfSome, None, slice_set};
 ghost use Rattle.places.specs.Places.{at, first_vacant, entry_at, places_after, length_after, places_new, length_new, occupied_from};
 ghost use Rattle.places.specs.Laws.{TableLaws};

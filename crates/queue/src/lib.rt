@@ -9,6 +9,8 @@
 //! each place, in one slice that is divided evenly among the places, so that a
 //! place that is full takes nothing from the others.
 
+#![tactic(auto)]
+
 mod rows;
 mod single;
 

@@ -1,5 +1,7 @@
 //! Runs a session script from standard input: one call a line in, one answer a line out.
 
+#![tactic(auto)]
+
 mod arguments;
 mod command;
 mod described;

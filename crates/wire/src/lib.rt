@@ -3,6 +3,8 @@
 //! What a wire means stands in `specs/Line.antt`. Nothing in a call of a wire allocates: an event that found no memory would
 //! be refused while its allowance lasts, which the meaning forbids.
 
+#![tactic(auto)]
+
 pub mod answers;
 pub mod metered;
 pub mod queued;
