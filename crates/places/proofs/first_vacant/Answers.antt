@@ -2,19 +2,19 @@ use Rattle.std.proofs.Common.{arith, length-take, rules}
 use Rattle.places.proofs.Lowest.{stop, on, end_grows, end_full}
 use Rattle.places.proofs.first_vacant.Goals as goal
 
-pub returns-then-is-none : goal.returns-then-is-none
-returns-then-is-none g c =
+pub returns-then-is_none : goal.returns-then-is_none
+returns-then-is_none g c =
     record {
       answer =
           stop c.args.places.now c.args.len c.loop-i.i c.index-places-i.result (omega arith) (omega arith) c.index-places-i.is
-          c.if-is-none.ensures c.loop-i.invariant;
+          c.if-is_none.ensures c.loop-i.invariant;
       within = search rules;
     }
 
 pub loop-i-preserved : goal.loop-i-preserved
 loop-i-preserved g c =
     on c.args.places.now c.args.len c.loop-i.i c.index-places-i.result (omega arith) (omega arith) c.index-places-i.is
-    c.if-is-none.ensures c.loop-i.invariant
+    c.if-is_none.ensures c.loop-i.invariant
 
 pub returns-then-len-places : goal.returns-then-len-places
 returns-then-len-places g c =

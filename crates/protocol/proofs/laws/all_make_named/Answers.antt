@@ -5,4 +5,4 @@ use Rattle.protocol.specs.TalliesLemmas.{all_map}
 use Rattle.protocol.proofs.laws.all_make_named.Goals as goal
 
 pub returns : goal.returns
-returns c = c.all-pass.ensures ∙ all_map makes_named said_buf c.args.messages.now
+returns c = c.all_pass.ensures ∙ all_map makes_named said_buf c.args.messages.now

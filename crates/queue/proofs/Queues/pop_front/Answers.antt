@@ -9,9 +9,9 @@ returns g c =
     let s = c.in-Some.field-0 in
     let found = c.in-Some.ensures.found in
     let is = c.in-Some.ensures.value in
-    let done = c.pop-in-result.ensures in
+    let done = c.pop_in-result.ensures in
     record {
       result = done.result ∙ ap front (own_items q.cells.now q.marks.now c.args.place s found is);
-      items = left_rows q.cells.now q.marks.now c.args.place s found is c.pop-in-result.new.cells c.pop-in-result.result.0 c.pop-in-result.auto.cells done.sound others done.items;
-      rooms = left_rooms q.cells.now q.marks.now c.args.place s found is c.pop-in-result.new.cells c.pop-in-result.result.0 c.pop-in-result.auto.cells done.sound;
+      items = left_rows q.cells.now q.marks.now c.args.place s found is c.pop_in-result.new.cells c.pop_in-result.result.0 c.pop_in-result.auto.cells done.sound others done.items;
+      rooms = left_rooms q.cells.now q.marks.now c.args.place s found is c.pop_in-result.new.cells c.pop_in-result.result.0 c.pop_in-result.auto.cells done.sound;
     }

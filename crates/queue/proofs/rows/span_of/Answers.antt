@@ -9,11 +9,11 @@ pub returns-then-not-fits : goal.returns-then-not-fits
 returns-then-not-fits c =
     record { value = seat_unsound _ c.args.marks.now c.args.place _ c.if-place-marks.false c.if-not-fits.ensures; found = tt }
 
-pub overflow-mul-low : goal.overflow-mul-low
-overflow-mul-low c = omega (arith, share_inside c.args.length (length c.args.marks.now) c.args.place c.if-place-marks.false)
+pub overflow_mul-low : goal.overflow_mul-low
+overflow_mul-low c = omega (arith, share_inside c.args.length (length c.args.marks.now) c.args.place c.if-place-marks.false)
 
-pub overflow-add-result : goal.overflow-add-result
-overflow-add-result c = omega (arith, share_inside c.args.length (length c.args.marks.now) c.args.place c.if-place-marks.false)
+pub overflow_add-result : goal.overflow_add-result
+overflow_add-result c = omega (arith, share_inside c.args.length (length c.args.marks.now) c.args.place c.if-place-marks.false)
 
 pub returns : goal.returns
 returns c =

@@ -14,32 +14,31 @@ returns-then-number-rows c = record {
   after = refl;
 }
 
-pub returns-then-not-may-fill : goal.returns-then-not-may-fill
-returns-then-not-may-fill c = record {
+pub returns-then-not-may_fill : goal.returns-then-not-may_fill
+returns-then-not-may_fill c = record {
   answer =
       breaks (filled_rows c.args.self.now) _ c.args.number (meant_buf c.args.row)
-      (rows_length (vec_items c.args.self.now.later) c.len.result (c.len.ensures ∙ c.args.self.now.later.ok.0)) c.if-number-rows.false (sym c.if-not-may-fill.ensures);
+      (rows_length (vec_items c.args.self.now.later) c.len.result (c.len.ensures ∙ c.args.self.now.later.ok.0)) c.if-number-rows.false (sym c.if-not-may_fill.ensures);
   after = refl;
 }
 
-pub invariant-of-self : goal.invariant-of-self
-invariant-of-self c =
-    let t = (and_parts (leb 4 c.args.number) (may_stand (c.len.result + 4) (meant_buf c.args.row)) (sym c.if-not-may-fill.ensures)).1 in (
-      c.args.self.now.few,
-      (
-        all_kept (vec_items c.args.self.now.later) (c.args.number - 4) c.args.row (may_stand (vec_len c.args.self.now.later + 4))
-            (subst (λ k. may_stand (k + 4) (meant_buf c.args.row) ≡ true) c.len.ensures t) c.args.self.now.sound,
-        tt,
-      ),
-    )
+pub invariant_of-self : goal.invariant_of-self
+invariant_of-self c =
+    let t = (and_parts (leb 4 c.args.number) (may_stand (c.len.result + 4) (meant_buf c.args.row)) (sym c.if-not-may_fill.ensures)).1 in
+    record {
+      few = c.args.self.now.few;
+      sound =
+          all_kept (vec_items c.args.self.now.later) (c.args.number - 4) c.args.row (may_stand (vec_len c.args.self.now.later + 4))
+          (subst (λ k. may_stand (k + 4) (meant_buf c.args.row) ≡ true) c.len.ensures t) c.args.self.now.sound;
+    }
 
 pub returns : goal.returns
 returns c =
-    let t = (and_parts (leb 4 c.args.number) (may_stand (c.len.result + 4) (meant_buf c.args.row)) (sym c.if-not-may-fill.ensures)).0 in
+    let t = (and_parts (leb 4 c.args.number) (may_stand (c.len.result + 4) (meant_buf c.args.row)) (sym c.if-not-may_fill.ensures)).0 in
     let low : 4 ≤ c.args.number = leb-true 4 c.args.number t in
     record {
       answer =
           stands (filled_rows c.args.self.now) _ c.args.number (meant_buf c.args.row)
-          (rows_length (vec_items c.args.self.now.later) c.len.result (c.len.ensures ∙ c.args.self.now.later.ok.0)) c.if-number-rows.false (sym c.if-not-may-fill.ensures);
+          (rows_length (vec_items c.args.self.now.later) c.len.result (c.len.ensures ∙ c.args.self.now.later.ok.0)) c.if-number-rows.false (sym c.if-not-may_fill.ensures);
       after = rows_set (vec_items c.args.self.now.later) (c.args.number - 4) c.args.row c.args.number (omega arith);
     }

@@ -6,12 +6,12 @@ use Rattle.protocol.proofs.filled.Filled.later_row.Goals as goal
 
 pub returns-then-at-len : goal.returns-then-at-len
 returns-then-at-len c =
-    nth_read meant_buf (vec_items c.args.self.now.later) c.saturating-sub-at.result c.index.result.now _
+    nth_read meant_buf (vec_items c.args.self.now.later) c.saturating_sub-at.result c.index.result.now _
     (omega (arith, c.args.self.now.later.ok.0, c.len.ensures, c.if-at-len.true)) c.index.ensures refl
-    ∙ ap (slice_get (map meant_buf (vec_items c.args.self.now.later))) c.saturating-sub-at.ensures
+    ∙ ap (slice_get (map meant_buf (vec_items c.args.self.now.later))) c.saturating_sub-at.ensures
 
 pub returns-else-at-len : goal.returns-else-at-len
 returns-else-at-len c =
-    nth_none meant_buf (vec_items c.args.self.now.later) c.saturating-sub-at.result
+    nth_none meant_buf (vec_items c.args.self.now.later) c.saturating_sub-at.result
     (omega (arith, c.args.self.now.later.ok.0, c.len.ensures, c.if-at-len.false))
-    ∙ ap (slice_get (map meant_buf (vec_items c.args.self.now.later))) c.saturating-sub-at.ensures
+    ∙ ap (slice_get (map meant_buf (vec_items c.args.self.now.later))) c.saturating_sub-at.ensures

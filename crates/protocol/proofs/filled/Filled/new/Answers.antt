@@ -8,10 +8,11 @@ use Rattle.protocol.specs.TalliesLemmas.{all_replicate}
 use Rattle.protocol.proofs.filled.Filled.new.Goals as goal
 
 -- blank rows keep the laws, and there are as many as asked for
-pub invariant-of-result : goal.invariant-of-result
-invariant-of-result c =
-    let rows = c.in-ok-later.later in
-    let blanks = c.in-ok-later.ensures in (
-      omega (arith, rows.ok.0, length-map (vec_items rows) meant_buf, ap length blanks, length-replicate (c.args.rows - 4) blank),
-      (ap (all (may_stand (vec_len rows + 4))) blanks ∙ all_replicate (may_stand (vec_len rows + 4)) (c.args.rows - 4) blank refl, tt),
-    )
+pub invariant_of-result : goal.invariant_of-result
+invariant_of-result c =
+    let rows = c.in_ok-later.later in
+    let blanks = c.in_ok-later.ensures in
+    record {
+      few = omega (arith, rows.ok.0, length-map (vec_items rows) meant_buf, ap length blanks, length-replicate (c.args.rows - 4) blank);
+      sound = ap (all (may_stand (vec_len rows + 4))) blanks ∙ all_replicate (may_stand (vec_len rows + 4)) (c.args.rows - 4) blank refl;
+    }

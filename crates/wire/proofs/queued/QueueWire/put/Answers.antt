@@ -18,7 +18,7 @@ returns-in-Ok c =
       lines =
           at_seen place (within_room room c.args.request) (received (ltb (length (items_at w.requests place)) room) (waiting c.args.request))
           (λ (q : ℕ) (l : List Request). lined (map waiting l) (get_or w.broken.now q false) (map event_of (items_at w.events q)) (room_at w.events q))
-          (items_at w.requests) (items_at c.push-back.new.self) c.in-Ok.ensures.items
+          (items_at w.requests) (items_at c.push_back.new.self) c.in-Ok.ensures.items
           (received_line waiting (items_at w.requests place) (get_or w.broken.now place false) (map event_of (items_at w.events place)) (room_at w.events place) room c.args.request);
     }
 
@@ -32,6 +32,6 @@ returns-in-Err c =
       lines =
           at_seen place (within_room room c.args.request) (received (ltb (length (items_at w.requests place)) room) (waiting c.args.request))
           (λ (q : ℕ) (l : List Request). lined (map waiting l) (get_or w.broken.now q false) (map event_of (items_at w.events q)) (room_at w.events q))
-          (items_at w.requests) (items_at c.push-back.new.self) c.in-Err.ensures.items
+          (items_at w.requests) (items_at c.push_back.new.self) c.in-Err.ensures.items
           (received_line waiting (items_at w.requests place) (get_or w.broken.now place false) (map event_of (items_at w.events place)) (room_at w.events place) room c.args.request);
     }

@@ -21,18 +21,18 @@ returns-then-len-room c =
       lines = at_same place (written (event_of c.args.event.now)) (queue_line w) (full_stays rs broken (items_at w.events place) (room_at w.events place) c.args.event.now full);
     }
 
-pub returns-then-not-is-sendable : goal.returns-then-not-is-sendable
-returns-then-not-is-sendable c =
+pub returns-then-not-is_sendable : goal.returns-then-not-is_sendable
+returns-then-not-is_sendable c =
     let w = c.args.self.now in
     let place = c.args.place in
     let rs = map waiting (items_at w.requests place) in
     let broken = get_or w.broken.now place false in
     let low : length (items_at w.events place) < room_at w.events place = omega (arith, c.len.ensures, c.room.ensures, c.if-len-room.false) in
     record {
-      answer = large_answer rs broken (items_at w.events place) (room_at w.events place) c.args.event.now low c.if-not-is-sendable.ensures;
+      answer = large_answer rs broken (items_at w.events place) (room_at w.events place) c.args.event.now low c.if-not-is_sendable.ensures;
       lines =
           at_same place (written (event_of c.args.event.now)) (queue_line w)
-          (large_stays rs broken (items_at w.events place) (room_at w.events place) c.args.event.now low c.if-not-is-sendable.ensures);
+          (large_stays rs broken (items_at w.events place) (room_at w.events place) c.args.event.now low c.if-not-is_sendable.ensures);
     }
 
 pub returns : goal.returns
@@ -43,11 +43,11 @@ returns c =
     let broken = get_or w.broken.now place false in
     let low : length (items_at w.events place) < room_at w.events place = omega (arith, c.len.ensures, c.room.ensures, c.if-len-room.false) in
     record {
-      answer = taken_answer rs broken (items_at w.events place) (room_at w.events place) c.args.event.now low c.if-not-is-sendable.ensures;
+      answer = taken_answer rs broken (items_at w.events place) (room_at w.events place) c.args.event.now low c.if-not-is_sendable.ensures;
       lines = λ p.
-          ap (λ (n : ℕ). lined (map waiting (items_at w.requests p)) (get_or w.broken.now p false) (map event_of (items_at c.push-back.new.self p)) n) (c.push-back.ensures.rooms p)
+          ap (λ (n : ℕ). lined (map waiting (items_at w.requests p)) (get_or w.broken.now p false) (map event_of (items_at c.push_back.new.self p)) n) (c.push_back.ensures.rooms p)
           ∙ at_seen place (within_room (room_at w.events place) c.args.event.now) (written (event_of c.args.event.now))
           (λ (q : ℕ) (l : List Event). lined (map waiting (items_at w.requests q)) (get_or w.broken.now q false) (map event_of l) (room_at w.events q))
-          (items_at w.events) (items_at c.push-back.new.self) c.push-back.ensures.items
-          (taken_line rs broken (items_at w.events place) (room_at w.events place) c.args.event.now low c.if-not-is-sendable.ensures) p;
+          (items_at w.events) (items_at c.push_back.new.self) c.push_back.ensures.items
+          (taken_line rs broken (items_at w.events place) (room_at w.events place) c.args.event.now low c.if-not-is_sendable.ensures) p;
     }
