@@ -88,7 +88,7 @@ fn panels(heap: Global) -> Result<Filled, Fail> {
 fn a_row_is_filled(rt: HostRuntime) -> Result<(), Fail> {
     let made = panels(rt.alloc())?;
     let panel = made.heading(4).ok_or("row 4")?;
-    assert!(rt; panel.name == b"film_panel" && panel.version == 2);
+    assert!(rt; panel.name == b"film_panel".as_slice() && panel.version == 2);
     let confirm = made.request(4, 0).ok_or("request 0")?;
     assert!(rt; is_as_described(confirm, CONFIRM));
     assert!(rt; made.request(5, 15).is_some() && made.request(5, 16).is_none());
