@@ -329,7 +329,7 @@ module _ (t : Terms) (lawful : Lawful t.rows) (w : World) where
 
   tidy_act_runs : (c : ClientId) (s : ClientState) (x : Option ObjectId) (k : Client) → Runs w [] (tidy_ends (tidy_act c s x k w).value) (tidy_act c s x k w).run
   tidy_act_runs c Live x k = still
-  tidy_act_runs c (Untold r) x k = seat_runs [] [] c _ (record { entries_are = refl; ends_are = refl; line_is = refl })
+  tidy_act_runs c (Untold r) x k = seat_runs [] [] c (record { client = with_state Told k; line = w.lines c.place; acts = [] }) (record { entries_are = refl; ends_are = refl; line_is = refl })
   tidy_act_runs c Told (Some x) k = tidy_end_runs x (find_in k.map x.id) k
   tidy_act_runs c Told None k =
       relined (resumed c (flush (seat c k (from w))) (from w)) _ (λ p. refl) (seat_runs [] [] c (flush (seat c k (from w))) (flush_ties (seat c k (from w)) (sat c k)))
