@@ -1,5 +1,5 @@
 -- The parts that every call is made of. Each is about one client: its record, its line, and what was done to both.
-use Rattle.std.specs.Prelude.{ℕ, Bool, cond, List, [], ◌∷◌, ◌++◌, map, Some, None, Option, nat_lt}
+use Rattle.std.specs.Prelude.{ℕ, cond, List, [], ◌∷◌, ◌++◌, map, Some, nat_lt}
 use Rattle.map.specs.declared.DataMark.{DataMark}
 use Rattle.map.specs.declared.Object.{Object}
 use Rattle.map.specs.declared.ObjectData.{ObjectData}

@@ -14,9 +14,7 @@ use Rattle.protocol.specs.declared.argument.ArgumentType.TheVariants as kind
 use Rattle.protocol.specs.Meaning.{admits_in}
 use Rattle.protocol.specs.Model.{MessageModel}
 use Rattle.message.specs.declared.part.Part.{Part}
-use Rattle.backend.specs.declared.ids.ClientId.{ClientId}
 use Rattle.backend.specs.declared.ids.ObjectId.{ObjectId}
-use Rattle.backend.specs.declared.faults.ArgumentFault.{ArgumentFault}
 use Rattle.backend.specs.declared.faults.ClientFault.{ClientFault}
 use Rattle.backend.specs.declared.faults.ClientFault.TheVariants.{Entry, NullText, NullObject, UnknownId, WrongInterface}
 use Rattle.backend.specs.declared.faults.StepFault.{StepFault}

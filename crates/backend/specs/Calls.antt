@@ -1,6 +1,5 @@
 -- What each call looks for, and what it then does. (A step is in Requests, what an event must meet in Sending.)
 use Rattle.std.specs.Prelude.{ℕ, ◌+◌, ◌-◌, Bool, true, false, cond, not, ◌&&◌, ltb, List, [], ◌∷◌, length, set, Some, None, Ok, Err, Option, Result, ◌==◌, nat_lt}
-use Rattle.std.specs.Option.{option_map}
 use Rattle.places.specs.Places.{first_vacant, grown}
 use Rattle.map.specs.declared.DataMark.{DataMark}
 use Rattle.map.specs.declared.DataMark.TheVariants.{Own, Number}
@@ -9,11 +8,10 @@ use Rattle.map.specs.declared.ObjectData.{ObjectData}
 use Rattle.map.specs.Map.{empty_map, find_in, inserted, new_answer, new_after, next_after}
 use Rattle.map.specs.Named.{mark_after}
 use Rattle.protocol.specs.Tallies.{all}
-use Rattle.protocol.specs.Model.{Title}
 use Rattle.protocol.specs.declared.refusal.Refusal.{Refusal}
 use Rattle.protocol.specs.declared.refusal.Refusal.TheVariants.{BadSize, TicketOutstanding, ClientKilled, Reserved, VersionAbove, NoVacancy}
 use Rattle.message.specs.Events.{sendable}
-use Rattle.wire.specs.Line.{Line, carried, head_of, opened as opened_line, write_answer}
+use Rattle.wire.specs.Line.{carried, head_of, opened as opened_line, write_answer}
 use Rattle.wire.specs.declared.answers.Writing.{Writing}
 use Rattle.wire.specs.declared.answers.Writing.TheVariants.{Taken, Refused as NotTaken, BadSize as TooLarge}
 use Rattle.backend.specs.declared.ids.ClientId.{ClientId}
@@ -43,11 +41,11 @@ use Rattle.backend.specs.declared.answers.SettledMaking.{SettledMaking}
 use Rattle.backend.specs.declared.answers.TidyAnswer.{TidyAnswer}
 use Rattle.backend.specs.declared.answers.TidyAnswer.TheVariants.{Reason, Ended, Vacated, Nothing}
 use Rattle.backend.specs.Ids.{local_of}
-use Rattle.backend.specs.World.{Terms, World, is_live, client_at, following, with_state, with_map, drawn, with_store, with_registry, with_place, with_roll, with_globals, with_outstanding, on_line}
-use Rattle.backend.specs.Acts.{Act, entered, opened, Seat, Run, from, in_world, seat, tagged, resumed, kill, offer, fail, flush, fresh, new_object, remove, end}
+use Rattle.backend.specs.World.{Terms, World, is_live, following, with_state, with_map, drawn, with_store, with_registry, with_place, with_roll, with_globals, with_outstanding, on_line}
+use Rattle.backend.specs.Acts.{entered, opened, Seat, Run, from, in_world, seat, tagged, resumed, kill, offer, fail, flush, fresh, new_object, remove, end}
 use Rattle.backend.specs.Registries.{off_roll, global_id, announce, retract, along_roll}
-use Rattle.backend.specs.Requests.{Buffers, Place, Stepped, stepped}
-use Rattle.backend.specs.Checks.{passing, unless, present, the_client, the_object, Owned, the_owned, the_row, the_global}
+use Rattle.backend.specs.Requests.{Buffers, Stepped, stepped}
+use Rattle.backend.specs.Checks.{passing, unless, present, the_client, the_object, Owned, the_owned, the_row}
 use Rattle.backend.specs.Sending.{SendArgument, sent_event, Sendable, send_checks}
 
 -- what a call that was not refused gives, and what it did

@@ -1,5 +1,5 @@
 -- Looking for refusals: each check gives what was found, or the refusal, and the first refusal is the answer.
-use Rattle.std.specs.Prelude.{ℕ, Bool, true, false, cond, List, Some, None, Ok, Err, Option, Result}
+use Rattle.std.specs.Prelude.{ℕ, Bool, true, false, List, Some, None, Ok, Err, Option, Result}
 use Rattle.map.specs.declared.InvalidId.{InvalidId}
 use Rattle.map.specs.declared.Object.{Object}
 use Rattle.map.specs.declared.ObjectData.{ObjectData}

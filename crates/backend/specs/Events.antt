@@ -1,6 +1,5 @@
 -- The events that the engine writes of its own accord.
-use Rattle.std.specs.Prelude.{ℕ, List, [], ◌∷◌, Some, Option}
-use Rattle.protocol.specs.declared.argument.Argument.{Argument}
+use Rattle.std.specs.Prelude.{ℕ, List, [], ◌∷◌, Some}
 use Rattle.protocol.specs.declared.argument.Argument.TheVariants.{Uint, Str, Object}
 use Rattle.message.specs.Events.{EventModel}
 

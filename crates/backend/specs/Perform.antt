@@ -19,7 +19,7 @@ use Rattle.backend.specs.declared.answers.TidyAnswer.{TidyAnswer}
 use Rattle.backend.specs.Tickets.{plain_is, making_is}
 use Rattle.backend.specs.World.{Terms, World}
 use Rattle.backend.specs.Acts.{Run, from}
-use Rattle.backend.specs.Requests.{Buffers, Stepped}
+use Rattle.backend.specs.Requests.{Buffers}
 use Rattle.backend.specs.Checks.{the_client, the_owned, the_global}
 use Rattle.backend.specs.Sending.{SendArgument}
 use Rattle.backend.specs.Calls.{Done, done, admit_check, admit_act, step_check, step_of, step_act, plain_act, making_act, create_check, create_act, destroy_check, destroy_act, send_check, send_act, info_of, set_act, handle_at, next_handle, post_check, post_act, kill_check, kill_act, add_check, add_act, disable_act, remove_act, flush_act, tidy_done}

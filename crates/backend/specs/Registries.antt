@@ -1,5 +1,5 @@
 -- The roll of registries, the globals, and what is announced.
-use Rattle.std.specs.Prelude.{ℕ, ◌+◌, ◌-◌, Bool, true, false, cond, not, ◌&&◌, List, [], ◌∷◌, ◌++◌, Some, None, Option, ◌==◌}
+use Rattle.std.specs.Prelude.{ℕ, ◌+◌, ◌-◌, Bool, cond, List, [], ◌∷◌, ◌++◌, Some, None, Option, ◌==◌}
 use Rattle.places.specs.Places.{at, lowest, places_new}
 use Rattle.backend.specs.declared.ids.ClientId.{ClientId}
 use Rattle.backend.specs.declared.ids.ObjectId.{ObjectId}
@@ -10,7 +10,7 @@ use Rattle.backend.specs.Ids.{same_object}
 use Rattle.backend.specs.Texts.{name_in}
 use Rattle.backend.specs.Events.{global_event, global_remove}
 use Rattle.backend.specs.World.{Terms, World, client_at, with_roll}
-use Rattle.backend.specs.Acts.{Seat, Run, seat, resumed, tell, in_world}
+use Rattle.backend.specs.Acts.{Seat, Run, seat, resumed, tell}
 
 -- The roll.
 

@@ -1,7 +1,6 @@
 -- What a step does with the first request of a client's line.
-use Rattle.std.specs.Prelude.{ℕ, Bool, true, false, cond, not, ◌&&◌, List, [], ◌∷◌, length, Some, None, Ok, Err, Option, Result, ◌==◌, nat_lt}
+use Rattle.std.specs.Prelude.{ℕ, cond, not, ◌&&◌, List, [], ◌∷◌, length, Some, None, Ok, Err, Option, Result, ◌==◌, nat_lt}
 use Rattle.std.specs.Str.{bytes_eq}
-use Rattle.map.specs.declared.DataMark.{DataMark}
 use Rattle.map.specs.declared.DataMark.TheVariants.{Own, Awaited}
 use Rattle.map.specs.declared.MapFault.{MapFault}
 use Rattle.map.specs.declared.Object.{Object}
@@ -15,7 +14,7 @@ use Rattle.message.specs.declared.part.Part.{Part}
 use Rattle.message.specs.Meaning.{part_in, overlaid}
 use Rattle.wire.specs.declared.answers.Head.{Head}
 use Rattle.wire.specs.declared.answers.Head.TheVariants as head
-use Rattle.wire.specs.Line.{Line, Content, head_of, reads, read_after, message_after, body_after}
+use Rattle.wire.specs.Line.{Content, reads, read_after, message_after, body_after}
 use Rattle.backend.specs.declared.ids.ClientId.{ClientId}
 use Rattle.backend.specs.declared.ids.ObjectId.{ObjectId}
 use Rattle.backend.specs.declared.client.Client.{Client}
@@ -35,10 +34,10 @@ use Rattle.backend.specs.Faults.{code_of, number_of_error}
 use Rattle.backend.specs.Texts.{name_in, unknown_id, unknown_opcode, invalid_method, invalid_binding, no_memory, malformed_request, null_interface}
 use Rattle.backend.specs.Tickets.{plain_of, making_of}
 use Rattle.backend.specs.World.{Terms}
-use Rattle.backend.specs.Acts.{Act, received, Seat, kill, offer, fail, fresh, enter, draw, end}
+use Rattle.backend.specs.Acts.{received, Seat, kill, offer, fail, fresh, enter, draw, end}
 use Rattle.backend.specs.Registries.{roll_end, enrolled, global_id, global_named, visible, announce_all}
 use Rattle.backend.specs.Reading.{BindAsked, only_new_id, bind_arguments}
-use Rattle.backend.specs.Arguments.{Asked, Failing, at_argument, entry_failing, Walked, walk}
+use Rattle.backend.specs.Arguments.{Failing, at_argument, entry_failing, Walked, walk}
 
 -- what the caller of a step lends: a message, a handle for each of its arguments, a body and a buffer for an error's text
 pub record Buffers : Type 0 where

@@ -1,6 +1,5 @@
 -- Sending an event: what is looked at before, argument by argument, and what goes to the wire.
 use Rattle.std.specs.Prelude.{ℕ, Bool, true, false, cond, not, ◌&&◌, List, [], ◌∷◌, Some, None, Ok, Err, Option, Result, ◌==◌, nat_lt}
-use Rattle.map.specs.declared.DataMark.{DataMark}
 use Rattle.map.specs.declared.InvalidId.{InvalidId}
 use Rattle.map.specs.declared.Object.{Object as MapObject}
 use Rattle.map.specs.declared.ObjectData.{ObjectData}
@@ -11,28 +10,18 @@ use Rattle.protocol.specs.declared.argument.Argument.TheVariants.{Int, Uint, Fix
 use Rattle.protocol.specs.declared.argument.ArgumentType.{ArgumentType}
 use Rattle.protocol.specs.declared.argument.ArgumentType.TheVariants as kind
 use Rattle.protocol.specs.declared.refusal.Refusal.{Refusal}
-use Rattle.protocol.specs.declared.refusal.Refusal.TheVariants.{
-  BadSize,
-  Reserved,
-  NoEvent,
-  BadSignature,
-  OtherClient,
-  DeadArgument,
-  NoChild,
-  WrongInterface,
-  NullArgument,
-}
+use Rattle.protocol.specs.declared.refusal.Refusal.TheVariants.{Reserved, NoEvent, BadSignature, OtherClient, DeadArgument, NoChild, WrongInterface, NullArgument}
 use Rattle.protocol.specs.Kinds.{agree}
 use Rattle.protocol.specs.Meaning.{event_in, same_interface, admits_in}
 use Rattle.protocol.specs.Model.{RowModel, MessageModel}
-use Rattle.message.specs.Events.{EventModel, sendable}
+use Rattle.message.specs.Events.{EventModel}
 use Rattle.backend.specs.declared.ids.ClientId.{ClientId}
 use Rattle.backend.specs.declared.ids.ObjectId.{ObjectId}
 use Rattle.backend.specs.declared.client.Client.{Client}
 use Rattle.backend.specs.Ids.{local_of, same_client}
 use Rattle.backend.specs.Reading.{as_text, as_object, as_new_id}
 use Rattle.backend.specs.Arguments.{forbids_null, next_row, later_rows}
-use Rattle.backend.specs.Checks.{passing, unless, present, the_object, Owned}
+use Rattle.backend.specs.Checks.{passing, unless, the_object}
 
 -- an argument of an event as the server gives it: objects by handle, texts and arrays as bytes
 abbrev pub SendArgument : Type 0

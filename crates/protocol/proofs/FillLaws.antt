@@ -1,12 +1,11 @@
 -- A filling is refused exactly where it would break a law.
-use Rattle.std.proofs.Common.{◌≡◌, ℕ, ◌+◌, ◌-◌, ◌<◌, ◌≤◌, Bool, true, false, cond, ◌&&◌, ltb, leb, ◌≢◌, List, length, take, set, Some, None, Ok, Err, Result, sym, refl, ap, ◌∙◌, subst, ⊎_elim, arith, length-take}
+use Rattle.std.proofs.Common.{◌≡◌, ℕ, ◌<◌, ◌≤◌, true, ◌&&◌, ltb, leb, ◌≢◌, List, length, take, set, Some, Ok, Err, Result, sym, ap, ◌∙◌, subst, ⊎_elim, arith, length-take}
 use Rattle.std.proofs.lemmas.List.{length-set}
-use Rattle.std.proofs.lemmas.Bool.{lt-ltb, le-ltb, ltb-true, leb-true, le-leb, lt-leb, cond-true, cond-false, and_parts, and_from, and_left, cases_eq, cases_Bool, true≢false}
+use Rattle.std.proofs.lemmas.Bool.{lt-ltb, le-ltb, ltb-true, leb-true, le-leb, lt-leb, cond-true, cond-false, and_parts, and_from, and_left, cases_eq, cases_Bool}
 use Rattle.std.specs.List.{slice_get}
 use Rattle.protocol.specs.declared.refusal.Refusal.{Refusal}
 use Rattle.protocol.specs.declared.refusal.Refusal.TheVariants.{NoRow, BreaksLaw}
 use Rattle.protocol.specs.Model.{RowModel}
-use Rattle.protocol.specs.CoreRows.{core_rows}
 use Rattle.protocol.specs.Lawful.{Lawful, RowLaws, Makes, Fresh}
 use Rattle.protocol.specs.RowTests.{may_stand}
 use Rattle.protocol.specs.Filling.{fill_answer, FillLaws}

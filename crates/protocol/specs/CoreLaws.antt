@@ -1,12 +1,11 @@
 -- The core keeps the laws, and so does the core with rows after it that may stand there.
-use Rattle.std.specs.Prelude.{◌≡◌, ℕ, zero, suc, ◌+◌, ◌-◌, ◌<◌, ◌≤◌, Bool, true, false, ◌≢◌, List, [], ◌∷◌, ◌++◌, length, Some, None, nat_lt, refl}
-use Rattle.std.proofs.Common.{sym, ap, subst, ◌∙◌, ⊎_elim, arith}
-use Rattle.std.proofs.lemmas.List.{length-append}
+use Rattle.std.specs.Prelude.{◌≡◌, ℕ, zero, suc, ◌-◌, ◌<◌, ◌≤◌, true, ◌≢◌, List, ◌++◌, length, Some, nat_lt, refl}
+use Rattle.std.proofs.Common.{sym, subst, ◌∙◌, ⊎_elim, arith}
 use Rattle.std.proofs.lemmas.Bool.{lt-ltb, cases_lt}
 use Rattle.std.specs.List.{slice_get}
 use Rattle.protocol.specs.Tallies.{all}
-use Rattle.protocol.specs.Model.{MessageModel, RowModel}
-use Rattle.protocol.specs.CoreRows.{anonymous, display, registry, callback, core_rows}
+use Rattle.protocol.specs.Model.{RowModel}
+use Rattle.protocol.specs.CoreRows.{anonymous, display, callback, core_rows}
 use Rattle.protocol.specs.Lawful.{Lawful, Makes, RowLaws}
 use Rattle.protocol.specs.RowTests.{row_sound, makes_named, may_stand}
 use Rattle.protocol.specs.Joins.{nth_front, nth_back}

@@ -1,9 +1,8 @@
 -- The rows that every catalogue begins with, and the row that stands where none was filled in.
-use Rattle.std.specs.Prelude.{ℕ, Bool, true, false, List, [], ◌∷◌, Some, None, codes, Option}
-use Rattle.protocol.specs.declared.argument.AllowNull.{AllowNull}
-use Rattle.protocol.specs.declared.argument.AllowNull.TheVariants.{Yes, No}
+use Rattle.std.specs.Prelude.{ℕ, true, false, List, [], ◌∷◌, Some, None, codes, Option}
+use Rattle.protocol.specs.declared.argument.AllowNull.TheVariants.{No}
 use Rattle.protocol.specs.declared.argument.ArgumentType.{ArgumentType}
-use Rattle.protocol.specs.declared.argument.ArgumentType.TheVariants.{Int, Uint, Fixed, Str, Object, NewId, Array, Fd}
+use Rattle.protocol.specs.declared.argument.ArgumentType.TheVariants.{Uint, Str, Object, NewId}
 use Rattle.protocol.specs.Model.{MessageModel, RowModel}
 
 -- a message of version 1 that does not end its sender

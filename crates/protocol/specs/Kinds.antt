@@ -1,7 +1,6 @@
 -- Kinds of arguments: when two are the same, which one an argument has, and when arguments agree with a signature.
-use Rattle.std.specs.Prelude.{Bool, true, false, ◌&&◌, List, [], ◌∷◌, Option}
-use Rattle.protocol.specs.declared.argument.AllowNull.{AllowNull}
-use Rattle.protocol.specs.declared.argument.AllowNull.TheVariants.{Yes, No}
+use Rattle.std.specs.Prelude.{Bool, true, false, ◌&&◌, List, [], ◌∷◌}
+use Rattle.protocol.specs.declared.argument.AllowNull.TheVariants.{Yes}
 use Rattle.protocol.specs.declared.argument.ArgumentType.{ArgumentType}
 use Rattle.protocol.specs.declared.argument.ArgumentType.TheVariants.{Int, Uint, Fixed, Str, Object, NewId, Array, Fd}
 use Rattle.protocol.specs.declared.argument.Argument.{Argument}

@@ -1,9 +1,8 @@
 -- The tests of rows are the laws in words.
-use Rattle.std.specs.Prelude.{◌≡◌, ℕ, zero, suc, ◌+◌, ◌<◌, ◌≤◌, Bool, true, false, cond, not, ◌&&◌, ltb, ◌⊎◌, List, [], ◌∷◌, length, is_some, Some, None, Option, ◌==◌, nat_le, nat_lt, refl}
-use Rattle.std.proofs.Common.{sym, ap, subst, ◌∙◌, inl, inr, ⊎_elim, arith}
-use Rattle.std.proofs.lemmas.Bool.{and_parts, and_from, ltb-true, lt-ltb, leb-true, le-leb, eqb-true, eq-eqb, ne_eqb, cond-true, cond-false, cases_eq, cases_Bool, true≢false, not_from_false, not_from_true, both_ways}
+use Rattle.std.specs.Prelude.{◌≡◌, ℕ, ◌<◌, true, not, ltb, List, length, is_some, Some, None, Option, ◌==◌, nat_le, nat_lt, refl}
+use Rattle.std.proofs.Common.{sym, subst, ◌∙◌, ⊎_elim, arith}
+use Rattle.std.proofs.lemmas.Bool.{and_parts, and_from, ltb-true, lt-ltb, leb-true, le-leb, eqb-true, eq-eqb, ne_eqb, cond-true, cond-false, cases_eq, cases_Bool, true≢false, not_from_false, not_from_true}
 use Rattle.std.proofs.lemmas.Slice.Eq.{bytes_eq-Decides}
-use Rattle.std.specs.List.{slice_get}
 use Rattle.std.specs.Str.{bytes_eq}
 use Rattle.protocol.specs.Kinds.{is_object, is_new_id}
 use Rattle.protocol.specs.Tallies.{all, count}

@@ -1,5 +1,5 @@
 -- Tests over lists.
-use Rattle.std.specs.Prelude.{ℕ, ◌+◌, Bool, true, false, cond, ◌&&◌, List, [], ◌∷◌}
+use Rattle.std.specs.Prelude.{ℕ, ◌+◌, Bool, true, cond, ◌&&◌, List, [], ◌∷◌}
 
 -- every item passes the test f
 abbrev pub all : {X : Type 0} → (X → Bool) → List X → Bool

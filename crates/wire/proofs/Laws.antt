@@ -1,13 +1,13 @@
 -- The laws of a line.
-use Rattle.std.proofs.Common.{◌≡◌, ℕ, ◌-◌, ◌<◌, ◌≤◌, Bool, true, false, cond, eqb, ltb, List, [], ◌∷◌, ◌++◌, length, Some, None, Option, sym, refl, ap, ◌∙◌, ⊎_elim, arith}
-use Rattle.std.proofs.lemmas.Bool.{cases_Bool, cond-true, cond-false, eq-eqb, ne_eqb, eqb-true}
+use Rattle.std.proofs.Common.{◌≡◌, ℕ, Bool, true, false, cond, eqb, ltb, List, length, Some, None, Option, sym, refl, ap, ◌∙◌, arith}
+use Rattle.std.proofs.lemmas.Bool.{cond-true, cond-false, eq-eqb, ne_eqb, eqb-true}
 use Rattle.protocol.specs.declared.argument.ArgumentType.{ArgumentType}
 use Rattle.message.specs.Events.{EventModel, sendable}
 use Rattle.queue.specs.Ring.{front}
 use Rattle.wire.specs.declared.answers.Writing.{Writing}
 use Rattle.wire.specs.declared.answers.Writing.TheVariants.{Taken, Refused, BadSize}
-use Rattle.wire.specs.declared.answers.Reading.TheVariants.{Done, Malformed, Nothing, Short}
-use Rattle.wire.specs.Line.{Line, Waiting, Content, read_answer, read_after, content_of, said, answered, rest, write_answer, written, with_event, carried, flushed, opened}
+use Rattle.wire.specs.declared.answers.Reading.TheVariants.{Done, Short}
+use Rattle.wire.specs.Line.{Line, Waiting, Content, read_answer, read_after, content_of, said, answered, rest, write_answer, written, with_event, flushed}
 use Rattle.wire.specs.Laws.{LineLaws}
 
 taken_refused : Refused ≡ Taken → ⊥

@@ -1,13 +1,13 @@
 -- A line that is kept in queues.
-use Rattle.std.proofs.Common.{◌≡◌, ℕ, zero, suc, ◌-◌, ◌<◌, ◌≤◌, Bool, true, false, cond, eqb, ltb, List, [], ◌∷◌, ◌++◌, map, length, get_or, replicate, Some, None, sym, refl, ap, ◌∙◌, arith}
-use Rattle.std.proofs.lemmas.List.{length_push, map_push, length-map, get_or_past}
-use Rattle.std.proofs.lemmas.Bool.{lt-ltb, le-ltb, cases_lt, cond-true, cond-false, ne_eqb, eq-eqb}
+use Rattle.std.proofs.Common.{◌≡◌, ℕ, zero, suc, ◌-◌, ◌<◌, ◌≤◌, Bool, true, false, cond, eqb, ltb, List, [], ◌∷◌, ◌++◌, map, length, sym, refl, ap, ◌∙◌, arith}
+use Rattle.std.proofs.lemmas.List.{length_push, map_push, length-map}
+use Rattle.std.proofs.lemmas.Bool.{lt-ltb, cond-true, cond-false, ne_eqb, eq-eqb}
 use Rattle.std.specs.Option.{option_map}
 use Rattle.std.specs.List.{slice_get}
 use Rattle.message.specs.Events.{EventModel, event_of, sendable}
 use Rattle.message.specs.declared.event.Event.{Event}
 use Rattle.queue.specs.Ring.{within_room, front}
-use Rattle.wire.specs.Line.{Line, Waiting, written, with_event, write_answer}
+use Rattle.wire.specs.Line.{Line, Waiting, written, write_answer}
 use Rattle.wire.specs.Queued.{lined, received}
 use Rattle.wire.specs.declared.answers.Writing.TheVariants.{Taken, Refused, BadSize}
 

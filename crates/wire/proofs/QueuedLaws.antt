@@ -1,5 +1,5 @@
 -- What goes into a queue wire comes out again.
-use Rattle.std.proofs.Common.{◌≡◌, ℕ, ◌≤◌, Bool, true, false, cond, ◌&&◌, ltb, leb, List, [], ◌∷◌, ◌++◌, map, length, Some, None, Option, sym, refl, ap, ◌∙◌, subst, arith}
+use Rattle.std.proofs.Common.{◌≡◌, ℕ, ◌≤◌, Bool, true, false, cond, ltb, leb, List, [], ◌∷◌, ◌++◌, map, length, Some, None, sym, refl, ap, ◌∙◌, arith}
 use Rattle.std.proofs.lemmas.Bool.{le-ltb, le-leb, and_from, cond-true, cond-false}
 use Rattle.protocol.specs.Kinds.{kind_of, same_type, agree}
 use Rattle.protocol.specs.declared.argument.Argument.{Argument}
@@ -8,9 +8,9 @@ use Rattle.protocol.specs.declared.argument.ArgumentType.{ArgumentType}
 use Rattle.message.specs.Meaning.{said}
 use Rattle.queue.specs.Ring.{front}
 use Rattle.wire.specs.declared.answers.Reading.{Reading}
-use Rattle.wire.specs.declared.answers.Reading.TheVariants.{Done, Malformed, Nothing, Short}
+use Rattle.wire.specs.declared.answers.Reading.TheVariants.{Done, Malformed, Short}
 use Rattle.wire.specs.declared.queued.Request.{Request}
-use Rattle.wire.specs.Line.{Line, Waiting, Content, reads, read_answer, content_of, answered, said as said_of}
+use Rattle.wire.specs.Line.{Line, Waiting, reads, read_answer, content_of, answered, said as said_of}
 use Rattle.wire.specs.Queued.{waiting, well_formed, received}
 use Rattle.wire.specs.QueuedLaws.{QueuedLaws, own_signature, made}
 

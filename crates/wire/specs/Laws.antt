@@ -1,5 +1,5 @@
 -- What the calls of a wire do to a line, one after the other.
-use Rattle.std.specs.Prelude.{◌≡◌, ℕ, ◌-◌, ◌<◌, ◌≤◌, true, List, [], ◌∷◌, ◌++◌, length, ◌≢◌}
+use Rattle.std.specs.Prelude.{◌≡◌, ℕ, ◌-◌, ◌<◌, true, List, [], ◌∷◌, ◌++◌, length, ◌≢◌}
 use Rattle.protocol.specs.declared.argument.ArgumentType.{ArgumentType}
 use Rattle.message.specs.Events.{EventModel, sendable}
 use Rattle.wire.specs.declared.answers.Writing.TheVariants.{Taken, Refused, BadSize}

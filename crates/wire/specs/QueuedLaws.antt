@@ -1,13 +1,11 @@
 -- What goes into a queue wire comes out again, and nothing is called malformed that is not.
 use Rattle.std.specs.Prelude.{◌≡◌, ℕ, ◌≤◌, true, false, List, [], ◌∷◌, ◌++◌, map, length, Some}
-use Rattle.protocol.specs.Kinds.{kind_of, agree}
+use Rattle.protocol.specs.Kinds.{kind_of}
 use Rattle.protocol.specs.declared.argument.ArgumentType.{ArgumentType}
-use Rattle.message.specs.Events.{EventModel}
 use Rattle.message.specs.Meaning.{said}
-use Rattle.wire.specs.declared.answers.Reading.TheVariants.{Done, Malformed}
-use Rattle.wire.specs.declared.answers.Writing.TheVariants.{Taken}
+use Rattle.wire.specs.declared.answers.Reading.TheVariants.{Malformed}
 use Rattle.wire.specs.declared.queued.Request.{Request}
-use Rattle.wire.specs.Line.{Line, Waiting, Content, reads, read_answer, write_answer, written}
+use Rattle.wire.specs.Line.{Line, Waiting, Content, reads, read_answer}
 use Rattle.wire.specs.Queued.{waiting, well_formed, received, fresh}
 
 -- the signature that a request was made for: the kinds of its own arguments

@@ -1,4 +1,4 @@
-use Rattle.std.proofs.Common.{◌≡◌, ◌++◌, length, take, drop, sym, ap, ◌∙◌, arith, rules}
+use Rattle.std.proofs.Common.{◌≡◌, ◌++◌, length, take, drop, arith, rules}
 use Rattle.message.specs.Meaning.{overlaid}
 use Rattle.message.proofs.Laid.{laid_whole, laid_cut}
 use Rattle.message.proofs.copies.lay.Goals as goal

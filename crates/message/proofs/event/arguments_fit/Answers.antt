@@ -1,4 +1,3 @@
-use Rattle.std.proofs.Common.{arith}
 use Rattle.message.proofs.Fits.{fits_over, fits_unclean, fits_more, fits_end}
 use Rattle.message.proofs.event.arguments_fit.Goals as goal
 

@@ -1,4 +1,4 @@
-use Rattle.std.proofs.Common.{◌≡◌, ◌≤◌, length, drop}
+use Rattle.std.proofs.Common.{◌≡◌, drop}
 use Rattle.protocol.specs.Kinds.{agree}
 use Rattle.protocol.proofs.argument.check_for_signature.Given as goal
 

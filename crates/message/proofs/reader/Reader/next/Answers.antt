@@ -1,4 +1,4 @@
-use Rattle.std.proofs.Common.{drop, Some, sym, ap, ◌∙◌, rules}
+use Rattle.std.proofs.Common.{Some, sym, ap, ◌∙◌}
 use Rattle.std.specs.Option.{option_map}
 use Rattle.message.specs.Meaning.{meaning, said}
 use Rattle.message.proofs.Left.{left_first, left_more, left_none}
