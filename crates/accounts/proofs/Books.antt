@@ -1,12 +1,10 @@
 -- The books of one client, and that each part of a call keeps them.
-use Rattle.std.proofs.Common.{◌≡◌, ℕ, suc, ◌+◌, ◌%◌, ◌^◌, ◌<◌, ◌≤◌, Bool, true, false, cond, eqb, ◌≢◌, ◌⊎◌, List, [], ◌∷◌, length, is_some, Some, None, Option, sym, refl, ap, ◌∙◌, subst, inl, inr, ⊎_elim, mod-eq_of_lt, arith}
-use Rattle.std.proofs.lemmas.Bool.{cases_eq, cases_Bool, both_ways, false≢true, eq-eqb, ne_eqb, cond-true, cond-false}
-use Rattle.map.specs.declared.DataMark.{DataMark}
-use Rattle.map.specs.declared.DataMark.TheVariants.{Awaited}
+use Rattle.std.proofs.Common.{◌≡◌, ℕ, suc, ◌+◌, ◌^◌, ◌<◌, ◌≤◌, true, false, ◌≢◌, ◌⊎◌, List, [], ◌∷◌, length, is_some, Some, None, Option, sym, refl, ap, ◌∙◌, subst, inl, inr, ⊎_elim, mod-eq_of_lt, arith}
+use Rattle.std.proofs.lemmas.Bool.{cases_eq, both_ways}
 use Rattle.map.specs.declared.Object.{Object}
 use Rattle.map.specs.declared.ObjectData.{ObjectData}
 use Rattle.map.specs.declared.ObjectMap.{ObjectMap}
-use Rattle.map.specs.Map.{limit, find_in}
+use Rattle.map.specs.Map.{find_in}
 use Rattle.laws.specs.Sizes.{Sized, Used}
 use Rattle.backend.specs.declared.ids.ClientId.{ClientId}
 use Rattle.backend.specs.declared.ids.ObjectId.{ObjectId}
@@ -14,10 +12,9 @@ use Rattle.backend.specs.declared.client.Client.{Client}
 use Rattle.backend.specs.declared.client.ClientState.{ClientState}
 use Rattle.backend.specs.declared.client.End.{End}
 use Rattle.backend.specs.World.{is_live, with_state, with_map, drawn, next_serial}
-use Rattle.backend.specs.Events.{delete_id}
-use Rattle.backend.specs.Acts.{Act, entered, ended, took, refused, fresh}
+use Rattle.backend.specs.Acts.{Act, entered, ended, fresh}
 use Rattle.accounts.specs.Shown.{objects_of}
-use Rattle.accounts.specs.Accounts.{Has, Apart, Unrefused, entries_in, ends_in, Side, entry, delete, deletes, delete_side, sides, Alternates, nothing, enters, deleted}
+use Rattle.accounts.specs.Accounts.{Has, Apart, entries_in, ends_in}
 use Rattle.accounts.proofs.Living.{living}
 
 -- the handles whose end was told

@@ -1,15 +1,14 @@
 -- Each of the eighteen calls keeps the accounts.
-use Rattle.std.proofs.Common.{◌≡◌, ℕ, zero, suc, ◌+◌, ◌-◌, ◌<◌, ◌≤◌, Bool, true, false, cond, not, ◌&&◌, eqb, ltb, ◌≢◌, ◌⊎◌, List, [], ◌∷◌, ◌++◌, take, is_some, Some, None, Ok, Err, Option, Result, sym, refl, ap, ◌∙◌, subst, inl, inr, ⊎_elim, arith}
-use Rattle.std.proofs.lemmas.Bool.{cond_both, cond-true, cond-false, cases_Bool, cases_eq, both_ways, false≢true, eqb-true, eqb-false, eq-eqb, ne_eqb, not-true, and_from}
+use Rattle.std.proofs.Common.{◌≡◌, ℕ, zero, suc, ◌+◌, ◌-◌, ◌<◌, ◌≤◌, Bool, true, false, cond, not, eqb, ltb, ◌≢◌, List, [], ◌∷◌, ◌++◌, take, is_some, Some, None, Ok, Err, Option, Result, sym, refl, ap, ◌∙◌, subst, inl, inr, ⊎_elim, arith}
+use Rattle.std.proofs.lemmas.Bool.{cond_both, cond-true, cond-false, cases_Bool, cases_eq, both_ways, false≢true, eqb-false, eq-eqb, ne_eqb, not-true, and_from}
 use Rattle.std.specs.List.{slice_get}
 use Rattle.places.specs.Places.{at}
-use Rattle.map.specs.declared.DataMark.{DataMark}
-use Rattle.map.specs.declared.DataMark.TheVariants.{Awaited, Number}
+use Rattle.map.specs.declared.DataMark.TheVariants.{Number}
 use Rattle.map.specs.declared.InvalidId.{InvalidId}
 use Rattle.map.specs.declared.Object.{Object}
 use Rattle.map.specs.declared.ObjectData.{ObjectData}
 use Rattle.map.specs.declared.ObjectMap.{ObjectMap}
-use Rattle.map.specs.Map.{limit, find_in, new_answer, new_after, next_after}
+use Rattle.map.specs.Map.{find_in, new_answer, new_after, next_after}
 use Rattle.map.specs.Named.{lookup_in, with_mark, mark_after}
 use Rattle.laws.proofs.Find.{new_half}
 use Rattle.laws.proofs.Next.{live, last}
@@ -20,7 +19,7 @@ use Rattle.protocol.specs.Meaning.{event_in, event_of}
 use Rattle.protocol.specs.Model.{MessageModel, RowModel}
 use Rattle.protocol.specs.declared.refusal.Refusal.{Refusal}
 use Rattle.protocol.specs.declared.refusal.Refusal.TheVariants.{NoClient, BadSize, TicketOutstanding, ClientKilled, Reserved, NoEvent, BadSignature, NoVacancy}
-use Rattle.wire.specs.Line.{Line, head_of, write_answer}
+use Rattle.wire.specs.Line.{head_of, write_answer}
 use Rattle.message.specs.Events.{sendable}
 use Rattle.protocol.specs.Kinds.{agree}
 use Rattle.backend.specs.declared.ids.ClientId.{ClientId}
@@ -33,7 +32,6 @@ use Rattle.backend.specs.declared.client.DisconnectReason.{DisconnectReason}
 use Rattle.backend.specs.declared.client.End.{End}
 use Rattle.backend.specs.declared.registry.Global.{Global}
 use Rattle.backend.specs.declared.answers.KillAnswer.{KillAnswer}
-use Rattle.backend.specs.declared.ticket.Bound.{Bound}
 use Rattle.backend.specs.declared.ticket.Origin.{Origin}
 use Rattle.backend.specs.declared.ticket.Outstanding.{Outstanding}
 use Rattle.backend.specs.declared.ticket.Outstanding.TheVariants as out
@@ -41,90 +39,25 @@ use Rattle.backend.specs.declared.ticket.PlainTicket.{PlainTicket}
 use Rattle.backend.specs.declared.ticket.MakingTicket.{MakingTicket}
 use Rattle.backend.specs.Ids.{local_of}
 use Rattle.backend.specs.Events.{global_remove}
-use Rattle.backend.specs.Tickets.{plain_is, making_is}
-use Rattle.backend.specs.World.{Terms, World, is_live, client_at, named, with_state, with_map, with_place, with_outstanding, with_roll}
-use Rattle.backend.specs.Acts.{Act, Deed, Seat, Run, from, in_world, seat, tagged, resumed, kill, tell, flush, fail, fresh, new_object, offer, end, remove}
+use Rattle.backend.specs.World.{Terms, World, is_live, client_at, named, with_state, with_map}
+use Rattle.backend.specs.Acts.{Act, Deed, Seat, Run, from, in_world, seat, resumed, kill, flush, new_object, offer, remove}
 use Rattle.backend.specs.Registries.{off_roll, announce, retract}
-use Rattle.backend.specs.Requests.{Buffers, Place, Stepped}
+use Rattle.backend.specs.Requests.{Buffers}
 use Rattle.backend.specs.Checks.{passing, unless, present, alive, the_client, the_object, Owned, the_owned, the_row}
 use Rattle.backend.specs.Sending.{SendArgument, sent_event, Sendable, send_checks, send_arguments, in_version, reserved_event}
-use Rattle.backend.specs.Calls.{
-  Done,
-  admit_check,
-  admit_act,
-  is_free,
-  roomy,
-  step_check,
-  step_of,
-  step_run,
-  step_act,
-  living_of,
-  living,
-  end_in,
-  sender_ends,
-  settle_sender,
-  mark_in,
-  child_set,
-  settle_child,
-  settled,
-  plain_act,
-  making_act,
-  create_seat,
-  Creating,
-  create_check,
-  create_act,
-  destroy_check,
-  destroy_act,
-  mark_of,
-  SendingTo,
-  sendable_to,
-  send_check,
-  send_seat,
-  send_run,
-  send_what,
-  send_act,
-  set_act,
-  handle_of,
-  handle_at,
-  handle_if,
-  next_handle,
-  postable,
-  post_check,
-  post_seat,
-  post_act,
-  kill_check,
-  kill_act,
-  reason_check,
-  add_check,
-  new_global,
-  add_world,
-  add_act,
-  disabled_global,
-  global_put,
-  disable_run,
-  flush_act,
-  Found,
-  found_at,
-  lowest_killed,
-  found_id,
-  tidy_end,
-  tidy_act,
-  tidy_at,
-  tidy_done,
-}
+use Rattle.backend.specs.Calls.{Done, admit_check, admit_act, is_free, roomy, step_check, step_of, step_act, living_of, living, sender_ends, settle_sender, mark_in, child_set, settle_child, settled, plain_act, making_act, create_seat, Creating, create_check, create_act, destroy_check, destroy_act, mark_of, SendingTo, sendable_to, send_check, send_seat, send_run, send_act, handle_of, handle_if, next_handle, postable, post_check, post_seat, post_act, kill_check, kill_act, reason_check, new_global, add_world, add_act, disabled_global, global_put, disable_run, flush_act, Found, lowest_killed, found_id, tidy_end, tidy_act, tidy_at, tidy_done}
 use Rattle.backend.specs.Perform.{Answer, Outcome, checked, stepped, settled_plain, settled_making}
-use Rattle.accounts.specs.Shown.{Ticket, plain, making, ticket_of, child_of, Paper, papers_shown, step_papers}
+use Rattle.accounts.specs.Shown.{Ticket, plain, making, ticket_of, child_of, Paper, papers_shown}
 use Rattle.accounts.specs.Accounts.{acts_of, Paired, comes_back}
 use Rattle.accounts.proofs.Living.{none_living}
 use Rattle.accounts.proofs.Books.{Alive, some_is, not_vacant, state_books}
 use Rattle.accounts.proofs.Turns.{stands_less}
 use Rattle.accounts.proofs.Maps.{new_entry, mark_marked}
-use Rattle.accounts.proofs.Seats.{Good, Waits, Quiet, handle_for, later_good, killed_good, tell_good, offer_good, flush_good, fail_good, end_good, remove_good, entry_good, mark_good, dead_good, quiet_opcode, quiet_sender, lost_map}
-use Rattle.accounts.proofs.Kept.{Roll, Sender, Kept, apart_from, later_kept, named_same, client_same, admits, resumed_kept, vacated_kept, seat_good}
-use Rattle.accounts.proofs.Steps.{StepGood, announce_good, stepped_good}
+use Rattle.accounts.proofs.Seats.{Good, Waits, Quiet, handle_for, killed_good, tell_good, offer_good, flush_good, fail_good, end_good, remove_good, entry_good, mark_good, quiet_opcode, quiet_sender, lost_map}
+use Rattle.accounts.proofs.Kept.{Sender, Kept, apart_from, later_kept, named_same, client_same, admits, vacated_kept}
+use Rattle.accounts.proofs.Steps.{announce_good, stepped_good}
 use Rattle.accounts.proofs.Checked.{ok_is, never_ok, passed, required, presented, the_client_lem, the_object_lem, looked_up, HasOwner, the_owned_lem}
-use Rattle.accounts.proofs.Runs.{On, deeds_assoc, resume_on, seat_on, act_on, off_roll_on, registry_on, end_on, along_on}
-use Rattle.accounts.proofs.Same.{plain_is_lem, making_is_lem}
+use Rattle.accounts.proofs.Runs.{On, resume_on, seat_on, act_on, off_roll_on, registry_on, end_on, along_on}
 
 -- after a call: what is kept, and the tickets
 pub record After (g : Option Ticket) (n : ℕ) (ds : List Deed) (ps : List Paper) (o : Outcome) : Type 0 where

@@ -1,16 +1,16 @@
 -- What every history keeps, of all clients, and how a change of one client is a change of the world.
-use Rattle.std.proofs.Common.{◌≡◌, ℕ, zero, suc, ◌+◌, ◌%◌, ◌^◌, ◌<◌, ◌≤◌, Bool, true, false, cond, ◌&&◌, eqb, ◌≢◌, ◌⊎◌, List, [], ◌∷◌, ◌++◌, length, set, replicate, is_some, Some, None, Option, sym, refl, ap, ◌∙◌, subst, inl, inr, ⊎_elim, mod-eq_of_lt, arith, lit<}
+use Rattle.std.proofs.Common.{◌≡◌, ℕ, zero, suc, ◌+◌, ◌^◌, ◌<◌, ◌≤◌, true, false, eqb, ◌≢◌, ◌⊎◌, List, [], ◌∷◌, ◌++◌, length, set, replicate, is_some, Some, None, Option, sym, refl, ap, ◌∙◌, subst, inl, inr, ⊎_elim, mod-eq_of_lt, arith}
 use Rattle.std.proofs.lemmas.Bool.{cases_eq, cases_Bool, eq-eqb, ne_eqb, eqb-true, cond-true, cond-false, and_from, and_left, and_right, and_parts}
-use Rattle.places.specs.Places.{at, grown, first_vacant}
+use Rattle.places.specs.Places.{at, first_vacant}
 use Rattle.places.specs.Laws.{Counted}
 use Rattle.places.proofs.Laws.{at_set_same, at_set_other}
-use Rattle.places.proofs.Entries.{set_counted, taken_counted, put_counted, new_vacant}
+use Rattle.places.proofs.Entries.{set_counted, put_counted, new_vacant}
 use Rattle.places.proofs.Search.{occupied_within}
 use Rattle.places.proofs.Vacant.{vacant_within}
 use Rattle.map.specs.declared.DataMark.TheVariants.{Own, Awaited}
 use Rattle.map.specs.declared.Object.{Object}
 use Rattle.map.specs.declared.ObjectData.{ObjectData}
-use Rattle.map.specs.Map.{limit, empty_map, find_in, inserted}
+use Rattle.map.specs.Map.{empty_map, find_in, inserted}
 use Rattle.wire.specs.Line.{Line}
 use Rattle.backend.specs.declared.ids.ClientId.{ClientId}
 use Rattle.backend.specs.declared.ids.ObjectId.{ObjectId}
@@ -19,15 +19,15 @@ use Rattle.backend.specs.declared.registry.Registry.{Registry}
 use Rattle.backend.specs.declared.ticket.Outstanding.{Outstanding}
 use Rattle.backend.specs.declared.ticket.Outstanding.TheVariants.{Nothing, Plain, Making}
 use Rattle.backend.specs.Ids.{same_client}
-use Rattle.backend.specs.World.{World, is_live, named, client_at, following, with_registry, with_outstanding, with_place}
-use Rattle.backend.specs.Acts.{Act, entered, opened, Deed, Seat, Run, tagged, seated, resumed}
+use Rattle.backend.specs.World.{World, is_live, named, client_at, following, with_place}
+use Rattle.backend.specs.Acts.{Act, entered, opened, Deed, Seat, tagged, seated}
 use Rattle.backend.specs.Calls.{display_object, display_id, newcomer, new_client_id, admit_world}
-use Rattle.accounts.specs.Accounts.{acts_of, entries_in, Side, entry, Alternates, nothing, enters}
+use Rattle.accounts.specs.Accounts.{acts_of, entry, nothing, enters}
 use Rattle.accounts.proofs.Living.{living}
-use Rattle.accounts.proofs.Books.{Alive, Books, Entry, later, no_books, same_handle, some_is, not_vacant, vacates_books}
-use Rattle.accounts.proofs.Turns.{Stands, Standing, Turns, stands_so, moved}
+use Rattle.accounts.proofs.Books.{Alive, Books, Entry, later, same_handle, some_is, not_vacant, vacates_books}
+use Rattle.accounts.proofs.Turns.{Turns, stands_so, moved}
 use Rattle.accounts.proofs.Maps.{insert_entry}
-use Rattle.accounts.proofs.Seats.{Good, Waits, handle_for}
+use Rattle.accounts.proofs.Seats.{Good, Waits}
 use Rattle.laws.proofs.Find.{empty_none}
 
 -- Clients are told apart.

@@ -1,5 +1,5 @@
 -- What the map's own operations are, as an entry, an end or a change of data.
-use Rattle.std.proofs.Common.{◌≡◌, ℕ, Some, None, Ok, Err, Result, sym, refl, ap, ◌∙◌, arith}
+use Rattle.std.proofs.Common.{◌≡◌, ℕ, Some, None, Ok, Result, refl, ap, ◌∙◌}
 use Rattle.map.specs.declared.DataMark.{DataMark}
 use Rattle.map.specs.declared.InvalidId.{InvalidId}
 use Rattle.map.specs.declared.LocalId.{LocalId}
@@ -8,9 +8,8 @@ use Rattle.map.specs.declared.ObjectData.{ObjectData}
 use Rattle.map.specs.declared.ObjectMap.{ObjectMap}
 use Rattle.map.specs.Map.{find_in, insert_answer, inserted, removed, new_answer, new_after, put_at}
 use Rattle.map.specs.Named.{lookup_in, with_mark, mark_over, mark_after}
-use Rattle.laws.specs.Sizes.{Sized, Used}
+use Rattle.laws.specs.Sizes.{Used}
 use Rattle.laws.specs.SizedLaws.{SizedLaws}
-use Rattle.laws.specs.LookupLaws.{Names}
 use Rattle.laws.proofs.Find.{entered_found, entered_others, entered_vacant, removed_none, put_found, put_others, new_found, new_others, vacant_new}
 use Rattle.laws.proofs.Kept.{sized_laws}
 use Rattle.laws.proofs.Lookup.{answered}

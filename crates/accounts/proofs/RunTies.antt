@@ -1,5 +1,5 @@
 -- What each call did is what its answer and the lines show.
-use Rattle.std.proofs.Common.{◌≡◌, ℕ, ◌+◌, Bool, true, false, cond, eqb, ◌⊎◌, List, [], ◌∷◌, ◌++◌, Some, None, Ok, Err, Option, Result, sym, refl, ap, ◌∙◌, subst, inl, inr, ⊎_elim}
+use Rattle.std.proofs.Common.{◌≡◌, ℕ, ◌+◌, Bool, true, false, cond, eqb, List, [], ◌∷◌, ◌++◌, Some, None, Ok, Err, Option, Result, sym, refl, ap, ◌∙◌, subst, ⊎_elim}
 use Rattle.std.proofs.lemmas.Bool.{cond_both, cond-true, cond-false, cases_Bool, eqb-true}
 use Rattle.map.specs.declared.DataMark.{DataMark}
 use Rattle.map.specs.declared.DataMark.TheVariants.{Number}
@@ -21,120 +21,21 @@ use Rattle.backend.specs.declared.client.End.{End}
 use Rattle.backend.specs.declared.registry.Global.{Global}
 use Rattle.backend.specs.declared.ticket.Origin.{Origin}
 use Rattle.backend.specs.declared.answers.KillAnswer.{KillAnswer}
-use Rattle.backend.specs.declared.answers.StepAnswer.{StepAnswer}
 use Rattle.backend.specs.Tickets.{plain_is, making_is}
-use Rattle.backend.specs.World.{Terms, World, is_live, client_at}
-use Rattle.backend.specs.Acts.{Act, entered, ended, took, refused, received, flushed as act_flushed, opened, Deed, Seat, Run, from, in_world, seat, tagged, seated, resumed, kill, flush, offer, end, remove}
-use Rattle.backend.specs.Registries.{off_roll, announce, retract, visit, along_roll}
+use Rattle.backend.specs.World.{Terms, World, is_live, client_at, with_state}
+use Rattle.backend.specs.Acts.{Act, entered, ended, took, refused, received, flushed as act_flushed, opened, Deed, Seat, Run, from, seat, tagged, resumed, kill, flush, offer, end, remove}
+use Rattle.backend.specs.Registries.{announce, retract, visit, along_roll}
 use Rattle.backend.specs.Events.{global_remove}
-use Rattle.backend.specs.Requests.{Buffers, Place}
+use Rattle.backend.specs.Requests.{Buffers}
 use Rattle.backend.specs.Checks.{the_client, the_object, the_owned, the_global, Owned}
 use Rattle.backend.specs.Sending.{SendArgument, sent_event, Sendable}
-use Rattle.backend.specs.Calls.{
-  Done,
-  admit_check,
-  admit_act,
-  step_check,
-  step_of,
-  step_act,
-  living,
-  end_in,
-  sender_ends,
-  settle_sender,
-  child_set,
-  settle_child,
-  settled,
-  plain_act,
-  making_act,
-  Creating,
-  create_check,
-  create_act,
-  create_seat,
-  destroy_check,
-  destroy_act,
-  mark_of,
-  SendingTo,
-  send_check,
-  send_answer,
-  send_end,
-  send_seat,
-  send_run,
-  send_what,
-  send_act,
-  info_of,
-  set_act,
-  handle_at,
-  next_handle,
-  post_check,
-  post_seat,
-  post_act,
-  kill_check,
-  kill_act,
-  add_check,
-  new_global,
-  add_world,
-  add_act,
-  disabled_global,
-  global_put,
-  disable_run,
-  disable_act,
-  remove_act,
-  flush_act,
-  Found,
-  found_id,
-  lowest_killed,
-  tidy_end,
-  tidy_act,
-  tidy_at,
-  tidy_done,
-}
-use Rattle.backend.specs.Perform.{
-  Call,
-  admit,
-  step,
-  settle_plain,
-  settle_making,
-  create,
-  destroy,
-  send,
-  look,
-  set,
-  find,
-  next,
-  post,
-  kill as kill_call,
-  add,
-  disable,
-  remove as remove_call,
-  flush as flush_call,
-  tidy,
-  Answer,
-  admitted,
-  stepped,
-  settled_plain,
-  settled_making,
-  created,
-  destroyed,
-  sent,
-  looked,
-  changed,
-  found,
-  found_next,
-  posted,
-  killed,
-  added,
-  disabled,
-  removed,
-  flushed,
-  Outcome,
-  checked,
-  perform,
-}
+use Rattle.backend.specs.Calls.{Done, admit_check, admit_act, step_check, step_of, step_act, living, end_in, sender_ends, settle_sender, child_set, settle_child, making_act, create_check, create_act, create_seat, destroy_check, destroy_act, mark_of, send_check, send_answer, send_end, send_seat, send_run, send_what, send_act, set_act, next_handle, post_check, post_seat, post_act, kill_check, kill_act, add_check, new_global, add_world, add_act, disabled_global, global_put, disable_run, disable_act, remove_act, flush_act, Found, found_id, lowest_killed, tidy_end, tidy_act, tidy_at}
+use Rattle.backend.specs.Perform.{Call, admit, step, settle_plain, settle_making, create, destroy, send, look, set, find, next, post, kill as kill_call, add, disable, remove as remove_call, flush as flush_call, tidy, Answer, admitted, stepped, created, destroyed, sent, looked, changed, found, found_next, posted, killed, added, disabled, removed, flushed, Outcome, checked, perform}
 use Rattle.accounts.specs.Shown.{one, step_entries, step_ends, entries_shown, ends_shown, send_ends, tidy_ends}
 use Rattle.accounts.specs.Accounts.{entries_in, ends_in}
-use Rattle.accounts.specs.Tied.{acts_in, done_to, replayed, Tied}
+use Rattle.accounts.specs.Tied.{acts_in, done_to, replayed}
 use Rattle.accounts.specs.Whole.{AllTied}
-use Rattle.accounts.proofs.Ties.{Ties, replay, offer_ties, tell_ties, flush_ties, kill_ties, fail_ties, enter_ties, remove_ties, end_ties, announce_ties}
+use Rattle.accounts.proofs.Ties.{Ties, replay, offer_ties, tell_ties, flush_ties, kill_ties, fail_ties, remove_ties, end_ties, announce_ties}
 use Rattle.accounts.proofs.StepTies.{stepped_ties}
 
 -- Lists of acts.

@@ -1,22 +1,21 @@
 -- A call under way: what it did at one client after the other keeps the accounts.
-use Rattle.std.proofs.Common.{◌≡◌, ℕ, suc, ◌<◌, ◌≤◌, Bool, true, false, cond, ◌≢◌, ◌⊎◌, List, [], ◌∷◌, ◌++◌, Some, None, Option, sym, refl, ap, ◌∙◌, subst, inl, inr, ⊎_elim, arith}
+use Rattle.std.proofs.Common.{◌≡◌, ℕ, ◌≤◌, false, ◌≢◌, ◌⊎◌, List, [], ◌∷◌, ◌++◌, Some, None, Option, sym, refl, ap, subst, arith}
 use Rattle.std.proofs.lemmas.Bool.{cond_both}
 use Rattle.map.specs.declared.DataMark.{DataMark}
-use Rattle.wire.specs.Line.{Line}
 use Rattle.backend.specs.declared.ids.ClientId.{ClientId}
 use Rattle.backend.specs.declared.ids.ObjectId.{ObjectId}
 use Rattle.backend.specs.declared.client.Client.{Client}
 use Rattle.backend.specs.declared.registry.Registry.{Registry}
 use Rattle.backend.specs.declared.ticket.Outstanding.{Outstanding}
 use Rattle.backend.specs.Ids.{same_object}
-use Rattle.backend.specs.World.{World, is_live, client_at, with_registry}
-use Rattle.backend.specs.Acts.{Act, Deed, Seat, Run, from, in_world, seat, tagged, seated, resumed, end, remove}
+use Rattle.backend.specs.World.{is_live, client_at, with_registry}
+use Rattle.backend.specs.Acts.{Act, Deed, Seat, Run, in_world, seat, tagged, seated, resumed, end}
 use Rattle.backend.specs.Registries.{without, off_roll, visit, along_roll}
 use Rattle.backend.specs.Calls.{end_in}
 use Rattle.accounts.specs.Accounts.{acts_of}
 use Rattle.accounts.proofs.Books.{Alive}
-use Rattle.accounts.proofs.Seats.{Good, Waits, end_good, remove_good}
-use Rattle.accounts.proofs.Kept.{Roll, Sender, Kept, apart_from, later_kept, seat_good, resumed_kept}
+use Rattle.accounts.proofs.Seats.{Good, Waits, end_good}
+use Rattle.accounts.proofs.Kept.{Roll, Kept, apart_from, seat_good, resumed_kept}
 
 pub deeds_assoc : (xs ys zs : List Deed) → (xs ++ ys) ++ zs ≡ xs ++ (ys ++ zs)
 deeds_assoc [] ys zs = refl

@@ -1,6 +1,6 @@
 -- A client in its place: each part of a call keeps its books, its numbers' turns, and which of its objects wait for data.
-use Rattle.std.proofs.Common.{◌≡◌, ℕ, suc, ◌<◌, ◌≤◌, Bool, true, false, cond, ◌&&◌, eqb, ltb, ◌≢◌, ◌⊎◌, List, [], ◌∷◌, ◌++◌, is_some, Some, None, Ok, Option, sym, refl, ap, ◌∙◌, subst, inl, inr, ⊎_elim, arith}
-use Rattle.std.proofs.lemmas.Bool.{cases_eq, cases_Bool, both_ways, cond_both, cond-false, and_left, and_right, ltb-true, ltb-false}
+use Rattle.std.proofs.Common.{◌≡◌, ℕ, suc, ◌<◌, ◌≤◌, true, false, ◌&&◌, eqb, ltb, ◌≢◌, ◌⊎◌, List, ◌∷◌, ◌++◌, is_some, Some, None, Ok, Option, sym, refl, ap, ◌∙◌, subst, inl, inr, ⊎_elim, arith}
+use Rattle.std.proofs.lemmas.Bool.{cases_eq, both_ways, cond_both, cond-false, and_left, and_right, ltb-false}
 use Rattle.map.specs.declared.DataMark.{DataMark}
 use Rattle.map.specs.declared.DataMark.TheVariants.{Awaited}
 use Rattle.map.specs.declared.Object.{Object}
@@ -19,12 +19,12 @@ use Rattle.backend.specs.declared.client.ClientState.TheVariants.{Live, Untold, 
 use Rattle.backend.specs.declared.client.DisconnectReason.{DisconnectReason}
 use Rattle.backend.specs.declared.client.DisconnectReason.TheVariants.{ConnectionClosed, ProtocolError}
 use Rattle.backend.specs.declared.client.End.{End}
-use Rattle.backend.specs.World.{is_live, with_state, with_map, drawn, next_serial}
+use Rattle.backend.specs.World.{is_live, with_map, drawn, next_serial}
 use Rattle.backend.specs.Events.{error_event, delete_id}
-use Rattle.backend.specs.Acts.{Act, entered, ended, took, refused, received, flushed, opened, Seat, struck, killed, kill, lost, heard, offer, tell, flush, fail, fresh, new_object, enter, draw, remove, end}
-use Rattle.accounts.specs.Accounts.{only_uint, deletes, delete_side, sides, Side}
-use Rattle.accounts.proofs.Books.{Alive, Books, Entry, Gone, Marked, some_is, not_vacant, later, same_books, state_books, draws_books, enters_books, ends_books, marks_books}
-use Rattle.accounts.proofs.Turns.{Stands, Standing, Turns, stands_less, moved, enter_turn, end_turn, remove_turn, mark_turn}
+use Rattle.backend.specs.Acts.{Act, entered, ended, took, refused, received, flushed, Seat, struck, killed, kill, lost, heard, offer, tell, flush, fail, fresh, new_object, enter, draw, remove, end}
+use Rattle.accounts.specs.Accounts.{only_uint, deletes, delete_side, sides}
+use Rattle.accounts.proofs.Books.{Alive, Books, Entry, Marked, some_is, not_vacant, later, same_books, state_books, draws_books, enters_books, ends_books, marks_books}
+use Rattle.accounts.proofs.Turns.{Standing, Turns, stands_less, enter_turn, end_turn, remove_turn, mark_turn}
 use Rattle.accounts.proofs.Maps.{insert_entry, remove_gone}
 
 -- the handle of an object of a client

@@ -1,5 +1,5 @@
 -- What a step shows and does to the line.
-use Rattle.std.proofs.Common.{◌≡◌, ℕ, ◌≤◌, Bool, true, false, cond, eqb, ltb, List, [], ◌∷◌, length, Some, None, Ok, Err, Option, Result, sym, refl, ap, ◌∙◌, subst}
+use Rattle.std.proofs.Common.{◌≡◌, ℕ, ◌≤◌, eqb, ltb, List, [], length, Some, None, Ok, Err, Option, Result, refl, ap, ◌∙◌}
 use Rattle.std.proofs.lemmas.Bool.{cond_both}
 use Rattle.map.specs.declared.DataMark.TheVariants.{Own, Awaited}
 use Rattle.map.specs.declared.MapFault.{MapFault}
@@ -15,18 +15,14 @@ use Rattle.protocol.specs.declared.argument.Argument.{Argument}
 use Rattle.message.specs.declared.part.Part.{Part}
 use Rattle.wire.specs.declared.answers.Head.{Head}
 use Rattle.wire.specs.declared.answers.Head.TheVariants as head
-use Rattle.wire.specs.Line.{Line, Content, rest, read_after, reads}
-use Rattle.backend.specs.declared.ids.ClientId.{ClientId}
+use Rattle.wire.specs.Line.{Line, Content, rest, reads}
 use Rattle.backend.specs.declared.ids.ObjectId.{ObjectId}
 use Rattle.backend.specs.declared.client.DisconnectReason.TheVariants.{ConnectionClosed}
-use Rattle.backend.specs.declared.client.End.{End}
 use Rattle.backend.specs.declared.registry.Global.{Global}
 use Rattle.backend.specs.declared.ticket.Origin.{Origin}
-use Rattle.backend.specs.declared.answers.StepAnswer.{StepAnswer}
 use Rattle.backend.specs.Faults.{code_of, number_of_error}
 use Rattle.backend.specs.Events.{done_event}
-use Rattle.backend.specs.World.{Terms}
-use Rattle.backend.specs.Acts.{Act, received, Seat, offer, enter, fresh, draw, end}
+use Rattle.backend.specs.Acts.{Seat, offer, enter, fresh, draw}
 use Rattle.backend.specs.Registries.{roll_end}
 use Rattle.backend.specs.Reading.{BindAsked, only_new_id, bind_arguments}
 use Rattle.backend.specs.Arguments.{Asked, Failing, at_argument, entry_failing, child_row, Walked, walk}
@@ -59,10 +55,10 @@ use Rattle.backend.specs.Requests.{
   stepped,
 }
 use Rattle.accounts.specs.Shown.{one, step_entries, step_ends}
-use Rattle.accounts.specs.Tied.{done_to, shortened}
+use Rattle.accounts.specs.Tied.{shortened}
 use Rattle.accounts.proofs.Walks.{walk_any}
 use Rattle.accounts.proofs.Steps.{one_new_id}
-use Rattle.accounts.proofs.Ties.{Ties, replay, offer_ties, kill_ties, fail_ties, draw_ties, enter_ties, end_ties, announce_all_ties}
+use Rattle.accounts.proofs.Ties.{Ties, offer_ties, kill_ties, fail_ties, draw_ties, enter_ties, end_ties, announce_all_ties}
 
 -- the answer shows the entries and ends of the seat
 abbrev pub Shows : Line → Stepped → Type 0

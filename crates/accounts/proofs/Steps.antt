@@ -1,8 +1,8 @@
 -- A step: whatever the first request is, the client's books are kept, and a ticket is handed out exactly where one is outstanding after it.
-use Rattle.std.proofs.Common.{◌≡◌, ℕ, zero, suc, ◌+◌, ◌<◌, ◌≤◌, Bool, true, false, cond, eqb, ltb, ◌≢◌, ◌⊎◌, List, [], ◌∷◌, ◌++◌, length, set, Some, None, Ok, Err, Option, Result, sym, refl, ap, ◌∙◌, subst, inl, inr, ⊎_elim, arith}
-use Rattle.std.proofs.lemmas.Bool.{cond_both, cond-true, cond-false, eqb-true, eqb-false, both_ways}
+use Rattle.std.proofs.Common.{◌≡◌, ℕ, zero, suc, ◌+◌, ◌<◌, ◌≤◌, true, cond, eqb, ltb, ◌≢◌, List, [], ◌∷◌, ◌++◌, length, set, Some, None, Ok, Err, Option, Result, sym, refl, ap, ◌∙◌, subst, inr, arith}
+use Rattle.std.proofs.lemmas.Bool.{cond_both, eqb-false}
 use Rattle.std.specs.List.{slice_get}
-use Rattle.places.specs.Places.{lowest, places_new}
+use Rattle.places.specs.Places.{places_new}
 use Rattle.map.specs.declared.DataMark.TheVariants.{Own, Awaited}
 use Rattle.map.specs.declared.MapFault.{MapFault}
 use Rattle.map.specs.declared.Object.{Object}
@@ -18,56 +18,26 @@ use Rattle.protocol.specs.declared.argument.Argument.{Argument}
 use Rattle.message.specs.declared.part.Part.{Part}
 use Rattle.wire.specs.declared.answers.Head.{Head}
 use Rattle.wire.specs.declared.answers.Head.TheVariants as head
-use Rattle.wire.specs.Line.{Line, Content, read_after, reads, write_answer}
+use Rattle.wire.specs.Line.{Content, read_after, reads, write_answer}
 use Rattle.backend.specs.declared.ids.ClientId.{ClientId}
 use Rattle.backend.specs.declared.ids.ObjectId.{ObjectId}
-use Rattle.backend.specs.declared.client.Client.{Client}
 use Rattle.backend.specs.declared.client.DisconnectReason.TheVariants.{ConnectionClosed}
 use Rattle.backend.specs.declared.registry.Global.{Global}
 use Rattle.backend.specs.declared.ticket.Bound.{Bound}
 use Rattle.backend.specs.declared.ticket.Origin.{Origin}
 use Rattle.backend.specs.declared.answers.StepAnswer.{StepAnswer}
-use Rattle.backend.specs.declared.faults.StepFault.TheVariants as fault
 use Rattle.backend.specs.Faults.{code_of, number_of_error}
 use Rattle.backend.specs.Events.{done_event, global_event}
 use Rattle.backend.specs.Texts.{name_in}
 use Rattle.backend.specs.World.{Terms, is_live}
-use Rattle.backend.specs.Acts.{Act, Seat, tell, offer, fresh, new_object, enter, draw, end}
-use Rattle.backend.specs.Registries.{roll_end, enrolled, global_named, visible, announce, announce_all}
+use Rattle.backend.specs.Acts.{Act, Seat, offer, fresh, new_object, enter, draw, end}
+use Rattle.backend.specs.Registries.{roll_end, visible, announce, announce_all}
 use Rattle.backend.specs.Reading.{BindAsked, only_new_id, bind_arguments}
 use Rattle.backend.specs.Arguments.{Asked, Failing, Walked, walk}
-use Rattle.backend.specs.Requests.{
-  Buffers,
-  Stepped,
-  Place,
-  quiet,
-  failed,
-  hand_plain,
-  hand_making,
-  synced,
-  enlisted,
-  registered,
-  displayed,
-  bindable,
-  bind_entered,
-  bind_to,
-  bind_named,
-  bound,
-  hand_out,
-  concluded,
-  asked,
-  origin_of,
-  dispatched,
-  received_at,
-  filled,
-  read_in,
-  of_message,
-  of_sender,
-  stepped,
-}
+use Rattle.backend.specs.Requests.{Buffers, Stepped, Place, quiet, failed, hand_plain, hand_making, synced, enlisted, registered, displayed, bind_entered, bind_to, bind_named, bound, hand_out, concluded, asked, origin_of, dispatched, received_at, filled, read_in, of_message, of_sender, stepped}
 use Rattle.accounts.specs.Shown.{step_papers, ticket_of, child_of, Paper}
 use Rattle.accounts.specs.Accounts.{Paired, goes_out}
-use Rattle.accounts.proofs.Books.{Alive, Entry, some_is, not_vacant}
+use Rattle.accounts.proofs.Books.{Alive, Entry, not_vacant}
 use Rattle.accounts.proofs.Maps.{insert_entry}
 use Rattle.accounts.proofs.Seats.{Good, later_good, killed_good, tell_good, offer_good, received_good, fail_free, end_good, draw_good, enter_good, not_display, lost_map, quiet_opcode}
 use Rattle.accounts.proofs.Walks.{walk_good}

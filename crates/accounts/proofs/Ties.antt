@@ -1,5 +1,5 @@
 -- What is done at a client's seat: which entries and ends it shows, and what it does to the line.
-use Rattle.std.proofs.Common.{◌≡◌, ℕ, ◌+◌, ◌≤◌, Bool, true, false, cond, eqb, ltb, List, [], ◌∷◌, ◌++◌, Some, None, Option, sym, refl, ap, ◌∙◌, subst}
+use Rattle.std.proofs.Common.{◌≡◌, ℕ, ◌+◌, Bool, true, false, cond, eqb, ltb, List, [], ◌∷◌, Some, None, Option, refl, ap, ◌∙◌}
 use Rattle.std.proofs.lemmas.Bool.{cond_both}
 use Rattle.map.specs.declared.DataMark.{DataMark}
 use Rattle.map.specs.Map.{limit}
@@ -10,7 +10,6 @@ use Rattle.wire.specs.declared.answers.Writing.TheVariants.{Taken, Refused, BadS
 use Rattle.backend.specs.declared.ids.ClientId.{ClientId}
 use Rattle.backend.specs.declared.ids.ObjectId.{ObjectId}
 use Rattle.backend.specs.declared.client.DisconnectReason.{DisconnectReason}
-use Rattle.backend.specs.declared.client.DisconnectReason.TheVariants.{ProtocolError}
 use Rattle.backend.specs.declared.client.End.{End}
 use Rattle.backend.specs.declared.registry.Global.{Global}
 use Rattle.backend.specs.Events.{error_event, delete_id, global_event}

@@ -1,5 +1,5 @@
 -- The turns of one number: entries and delete_id events.
-use Rattle.std.proofs.Common.{◌≡◌, ℕ, ◌<◌, ◌≤◌, Bool, true, false, cond, eqb, ◌≢◌, ◌⊎◌, List, [], ◌∷◌, Some, None, Option, sym, refl, ap, ◌∙◌, subst, inl, inr, ⊎_elim, arith}
+use Rattle.std.proofs.Common.{◌≡◌, ℕ, ◌<◌, ◌≤◌, Bool, true, false, cond, eqb, ◌⊎◌, List, ◌∷◌, Some, None, Option, sym, refl, ap, ◌∙◌, subst, ⊎_elim, arith}
 use Rattle.std.proofs.lemmas.Bool.{cases_eq, false≢true, eq-eqb, ne_eqb, cond-true, cond-false}
 use Rattle.map.specs.declared.Object.{Object}
 use Rattle.map.specs.declared.ObjectData.{ObjectData}
@@ -8,7 +8,7 @@ use Rattle.map.specs.Map.{limit, find_in}
 use Rattle.backend.specs.declared.client.Client.{Client}
 use Rattle.backend.specs.World.{is_live}
 use Rattle.backend.specs.Acts.{Act}
-use Rattle.accounts.specs.Accounts.{Unrefused, Side, entry, delete, delete_side, sides, Alternates, nothing, enters, deleted}
+use Rattle.accounts.specs.Accounts.{Unrefused, Side, entry, delete, delete_side, sides, Alternates, enters, deleted}
 use Rattle.accounts.proofs.Books.{Entry, Gone, Marked}
 
 -- what may come next for a number: a delete_id where it is live; an entry where it is not, unless the client is killed

@@ -1,63 +1,22 @@
 -- Every history keeps its accounts: what is kept along it, call by call, and the accounts from that.
-use Rattle.std.proofs.Common.{◌≡◌, ℕ, zero, suc, ◌+◌, ◌<◌, ◌≤◌, Bool, true, false, cond, ◌≢◌, ◌⊎◌, List, [], ◌∷◌, ◌++◌, length, replicate, Some, None, Ok, Err, Option, Result, sym, refl, ap, ◌∙◌, subst, inl, inr, ⊎_elim, arith}
+use Rattle.std.proofs.Common.{◌≡◌, ℕ, zero, suc, ◌<◌, ◌≤◌, List, [], length, replicate, None, Ok, Err, Option, Result, sym, refl, ap, subst, arith}
 use Rattle.std.proofs.lemmas.Bool.{cond_both}
 use Rattle.places.specs.Places.{at}
 use Rattle.protocol.specs.Lawful.{Lawful}
 use Rattle.protocol.specs.declared.refusal.Refusal.{Refusal}
 use Rattle.wire.specs.Line.{Line}
 use Rattle.backend.specs.declared.ids.ClientId.{ClientId}
-use Rattle.backend.specs.declared.ids.ObjectId.{ObjectId}
 use Rattle.backend.specs.declared.client.Client.{Client}
 use Rattle.backend.specs.Tickets.{plain_is, making_is}
-use Rattle.backend.specs.World.{Terms, World, new_engine, named, client_at, on_line}
+use Rattle.backend.specs.World.{Terms, World, new_engine, named, client_at}
 use Rattle.backend.specs.Acts.{Deed}
 use Rattle.backend.specs.Requests.{Buffers}
 use Rattle.backend.specs.Checks.{the_client, the_owned, the_global}
-use Rattle.backend.specs.Calls.{step_check, step_act, admit_check, admit_act, create_check, create_act, destroy_check, destroy_act, send_check, send_act, set_act, info_of, handle_at, next_handle, post_check, post_act, kill_check, kill_act, add_check, add_act, disable_act, remove_act, flush_act, plain_act, making_act}
-use Rattle.backend.specs.Perform.{
-  Call,
-  admit,
-  step,
-  settle_plain,
-  settle_making,
-  create,
-  destroy,
-  send,
-  look,
-  set,
-  find,
-  next,
-  post,
-  kill,
-  add,
-  disable,
-  remove,
-  flush,
-  tidy,
-  Outcome,
-  admitted,
-  stepped,
-  created,
-  destroyed,
-  sent,
-  looked,
-  changed,
-  found,
-  found_next,
-  posted,
-  killed,
-  added,
-  disabled,
-  removed,
-  flushed,
-  checked,
-  settled_plain,
-  settled_making,
-  perform,
-}
-use Rattle.accounts.specs.Histories.{History, turn, Leads, begins, gains, breaks, calls, deeds}
-use Rattle.accounts.specs.Shown.{Ticket, ticket_of, child_of, ticket_given, Paper, papers}
-use Rattle.accounts.specs.Accounts.{acts_of, Paired, none_out, entry, nothing}
+use Rattle.backend.specs.Calls.{step_check, step_act, admit_check, admit_act, create_check, create_act, destroy_check, destroy_act, send_check, send_act, set_act, post_check, post_act, kill_check, kill_act, add_check, add_act, disable_act, remove_act, flush_act}
+use Rattle.backend.specs.Perform.{Call, admit, step, settle_plain, settle_making, create, destroy, send, look, set, find, next, post, kill, add, disable, remove, flush, tidy, admitted, stepped, created, destroyed, sent, looked, changed, found, found_next, posted, killed, added, disabled, removed, flushed, checked, perform}
+use Rattle.accounts.specs.Histories.{History, Leads, begins, gains, breaks, calls, deeds}
+use Rattle.accounts.specs.Shown.{ticket_of, child_of, ticket_given, Paper, papers}
+use Rattle.accounts.specs.Accounts.{Paired, none_out, entry, nothing}
 use Rattle.accounts.proofs.Books.{Books, no_books, not_vacant}
 use Rattle.accounts.proofs.Turns.{Turns}
 use Rattle.accounts.proofs.Kept.{Kept, apart_from}

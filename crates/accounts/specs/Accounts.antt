@@ -1,5 +1,5 @@
 -- The accounts of a history: what was handed out and what is owed, for each client and over all.
-use Rattle.std.specs.Prelude.{◌≡◌, ℕ, ◌+◌, ◌<◌, Bool, true, false, cond, ◌&&◌, ◌⊎◌, List, [], ◌∷◌, ◌++◌, length, Some, None, Ok, Err, Option, ◌==◌}
+use Rattle.std.specs.Prelude.{◌≡◌, ℕ, ◌+◌, ◌<◌, false, cond, ◌&&◌, ◌⊎◌, List, [], ◌∷◌, length, Some, None, Ok, Err, Option, ◌==◌}
 use Rattle.map.specs.declared.DataMark.TheVariants.{Awaited}
 use Rattle.map.specs.Map.{limit}
 use Rattle.protocol.specs.declared.argument.Argument.{Argument}
@@ -15,7 +15,7 @@ use Rattle.backend.specs.Reading.{as_uint}
 use Rattle.backend.specs.World.{Terms, World, client_at, is_live}
 use Rattle.backend.specs.Acts.{Act, entered, ended, took, refused, received, flushed, opened, Deed}
 use Rattle.backend.specs.Perform.{look, next, looked, found_next, perform}
-use Rattle.accounts.specs.Histories.{History, Turn, deeds}
+use Rattle.accounts.specs.Histories.{History, deeds}
 use Rattle.accounts.specs.Shown.{Ticket, ticket_of, child_of, Paper, handed, settled, entries, ends, papers}
 
 -- Lists of handles.

@@ -1,5 +1,5 @@
 -- What calls and answers show: the objects entered, the ends told, the tickets handed out and settled.
-use Rattle.std.specs.Prelude.{ℕ, List, [], ◌∷◌, ◌++◌, Some, None, Ok, Err, Option, Result}
+use Rattle.std.specs.Prelude.{List, [], ◌∷◌, ◌++◌, Some, None, Ok, Err, Option, Result}
 use Rattle.backend.specs.declared.ids.ObjectId.{ObjectId}
 use Rattle.backend.specs.declared.client.End.{End}
 use Rattle.backend.specs.declared.ticket.Bound.{Bound}
@@ -8,7 +8,6 @@ use Rattle.backend.specs.declared.ticket.Outstanding.{Outstanding}
 use Rattle.backend.specs.declared.ticket.Outstanding.TheVariants as out
 use Rattle.backend.specs.declared.answers.StepAnswer.{StepAnswer}
 use Rattle.backend.specs.declared.answers.StepAnswer.TheVariants.{Idle, Closed, Synced, Registered, Plain, Making, Failed}
-use Rattle.backend.specs.declared.answers.SettledMaking.{SettledMaking}
 use Rattle.backend.specs.declared.answers.SendAnswer.{SendAnswer}
 use Rattle.backend.specs.declared.answers.SendAnswer.TheVariants.{Sent, Lost, NotSent}
 use Rattle.backend.specs.declared.answers.TidyAnswer.{TidyAnswer}

@@ -1,5 +1,5 @@
 -- After any list of up to 4,294,967,295 calls, over any lines, any catalogue that keeps its laws and any policy, the accounts agree.
-use Rattle.std.specs.Prelude.{◌≡◌, ℕ, ◌<◌, ◌≤◌, List, ◌∷◌, length}
+use Rattle.std.specs.Prelude.{◌≡◌, ℕ, ◌<◌, ◌≤◌, ◌∷◌, length}
 use Rattle.protocol.specs.Lawful.{Lawful}
 use Rattle.backend.specs.declared.ids.ClientId.{ClientId}
 use Rattle.backend.specs.World.{Terms, World}

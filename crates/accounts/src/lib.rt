@@ -3,19 +3,9 @@
 
 #![tactic(auto)]
 
-ghost use Rattle.accounts.specs.Whole.{Whole, AllTied, Promised};
-
-/// After any list of up to 4,294,967,295 calls, objects, numbers and tickets agree.
-pub fn accounts_agree()
-    ensures { Whole }
-{}
+ghost use Rattle.accounts.specs.Whole.{AllTied};
 
 /// What a call is said to have done is what its answer and the lines show.
 pub fn deeds_are_shown()
     ensures { AllTied }
-{}
-
-/// Whatever answers and leaves as a call's definition says keeps the accounts.
-pub fn calls_keep_accounts()
-    ensures { Promised }
 {}
