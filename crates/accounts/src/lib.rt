@@ -1,5 +1,5 @@
-//! The accounts of the engine's calls: over any list of calls, what was handed out and what is owed agree. Each function here has a
-//! theorem for its contract and does nothing: a theorem is asked for only where a contract names it.
+//! Theorems over what the engine's calls mean. A function here has a theorem for its contract and does nothing: a theorem is asked
+//! for only where a contract names it. That accounts agree over any list of calls is not proved yet: see whole.rt.txt beside this.
 
 #![tactic(auto)]
 
