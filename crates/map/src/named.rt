@@ -23,8 +23,8 @@ impl ObjectMap<ObjectData> {
     {
         let object = self.lookup(name)?;
         let data = ObjectData {
-            serial: object.data.serial,
             mark,
+            ..object.data
         };
         self.put(name.id, Some(Object { data, ..object }));
         Ok(())
