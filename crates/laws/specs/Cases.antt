@@ -24,6 +24,6 @@ pub record Cases (D : Type 0) : Type 0 where
   -- 1 names an object
   pub one_taken : (o : Object D) → insert_answer (only_one o) 1 ≡ Err Taken
   -- with all 64 places of the client's half used before, 65 is full, whatever is vacant below
-  pub last_full : (m : ObjectMap D) → Sized m → m.client_len ≡ client_places → insert_answer m 65 ≡ Err Full
+  pub last_full : (m : ObjectMap D) → Sized m → m.client_objects.len ≡ client_places → insert_answer m 65 ≡ Err Full
   -- and 66 is beyond
-  pub past_beyond : (m : ObjectMap D) → Sized m → m.client_len ≡ client_places → insert_answer m 66 ≡ Err Beyond
+  pub past_beyond : (m : ObjectMap D) → Sized m → m.client_objects.len ≡ client_places → insert_answer m 66 ≡ Err Beyond

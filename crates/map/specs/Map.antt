@@ -6,7 +6,7 @@ use Rattle.places.specs.declared.PlaceFault.{PlaceFault}
 use Rattle.places.specs.declared.PlaceFault.TheVariants as place
 use Rattle.places.specs.declared.table.Table.{Table}
 use Rattle.places.specs.Places.{at, entry_at, first_vacant, occupied_from, or_else}
-use Rattle.places.specs.Tables.{empty_table, entered_at, entered_new, replaced}
+use Rattle.places.specs.Tables.{empty_table, entered_at, entered_in, replaced}
 use Rattle.map.specs.declared.InvalidId.{InvalidId}
 use Rattle.map.specs.declared.MapFault.{MapFault}
 use Rattle.map.specs.declared.MapFault.TheVariants.{Zero, Beyond, Taken, Full}
@@ -106,9 +106,13 @@ module _ {D : Type 0} where
   abbrev pub new_answer : ObjectMap D → Option ℕ
   new_answer m = option_map (λ i. i + limit) (first_vacant m.server_objects.places m.server_objects.len)
 
+  -- the map after a new object of the server's half, whose place is r
+  abbrev pub new_server : Option ℕ → ObjectMap D → Object D → ObjectMap D
+  new_server r m o = with_server m (entered_in r m.server_objects o)
+
   -- the map after a new object of the server's half
   abbrev pub new_after : ObjectMap D → Object D → ObjectMap D
-  new_after m o = with_server m (entered_new m.server_objects o)
+  new_after m o = new_server (first_vacant m.server_objects.places m.server_objects.len) m o
 
   -- the lowest live id of the server's half whose place is at or above i
   abbrev pub next_server : ObjectMap D → ℕ → Option ℕ
