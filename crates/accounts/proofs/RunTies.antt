@@ -9,8 +9,7 @@ use Rattle.map.specs.declared.ObjectData.{ObjectData}
 use Rattle.protocol.specs.Lawful.{Lawful}
 use Rattle.protocol.specs.declared.refusal.Refusal.{Refusal}
 use Rattle.wire.specs.Line.{Line, head_of, write_answer}
-use Rattle.wire.specs.declared.answers.Writing.{Writing}
-use Rattle.wire.specs.declared.answers.Writing.TheVariants.{Taken, Refused, BadSize}
+use Rattle.wire.specs.declared.answers.WriteError.{WriteError}
 use Rattle.backend.specs.declared.ids.ClientId.{ClientId}
 use Rattle.backend.specs.declared.ids.ObjectId.{ObjectId}
 use Rattle.backend.specs.declared.ids.GlobalId.{GlobalId}
@@ -185,10 +184,9 @@ module _ (t : Terms) (lawful : Lawful t.rows) (w : World) where
       let s = settle_sender o (from w) in
       relined (settle_child x d s.run).run _ (λ p. refl) (child_runs [] (one s.value) x d (living s.run.world x) s.run (settle_sender_runs o))
 
-  send_ends_lem : (v : Writing) (e : Option End) → send_ends (send_answer v e) ≡ one e
-  send_ends_lem Taken e = refl
-  send_ends_lem Refused e = refl
-  send_ends_lem BadSize e = refl
+  send_ends_lem : (v : Result (Unit {0}) WriteError) (e : Option End) → send_ends (send_answer v e) ≡ one e
+  send_ends_lem (Ok u) e = refl
+  send_ends_lem (Err r) e = refl
 
   sent_ties : (x : ObjectId) (opcode : ℕ) (as' : List SendArgument) (s : Sendable) (k : Client)
       → Ties (w.lines x.client.place) [] (one (send_end x s)) (send_seat x opcode as' s (seat x.client k (from w)))

@@ -12,8 +12,7 @@ use Rattle.protocol.specs.declared.refusal.Refusal.{Refusal}
 use Rattle.protocol.specs.declared.refusal.Refusal.TheVariants.{BadSize, TicketOutstanding, ClientKilled, Reserved, VersionAbove, NoVacancy}
 use Rattle.message.specs.Events.{sendable}
 use Rattle.wire.specs.Line.{carried, head_of, opened as opened_line, write_answer}
-use Rattle.wire.specs.declared.answers.Writing.{Writing}
-use Rattle.wire.specs.declared.answers.Writing.TheVariants.{Taken, Refused as NotTaken, BadSize as TooLarge}
+use Rattle.wire.specs.declared.answers.WriteError.{WriteError}
 use Rattle.backend.specs.declared.ids.ClientId.{ClientId}
 use Rattle.backend.specs.declared.ids.ObjectId.{ObjectId}
 use Rattle.backend.specs.declared.ids.GlobalId.{GlobalId}
@@ -209,10 +208,9 @@ send_check t x opcode as' w =
     passing (the_client w x.client) (λ k.
     cond (is_live k.state) (sendable_to k (send_checks t.rows k x opcode as')) (Ok (record { client = k; what = None }))))
 
-abbrev pub send_answer : Writing → Option End → SendAnswer
-send_answer Taken e = Sent e
-send_answer NotTaken e = Lost e
-send_answer TooLarge e = Lost e
+abbrev pub send_answer : Result (Unit {0}) WriteError → Option End → SendAnswer
+send_answer (Ok u) e = Sent e
+send_answer (Err r) e = Lost e
 
 -- an event with the destructor mark ends its sender after the write, taken or refused
 abbrev pub send_end : ObjectId → Sendable → Option End

@@ -3,7 +3,7 @@
 use message::{ARGUMENTS, EVENT_BYTES, Event, Message, Part};
 use protocol::argument::{AllowNull, Argument, ArgumentType};
 use wire::Wire;
-use wire::answers::{Head, Reading, Writing};
+use wire::answers::{Head, ReadError, WriteError};
 use wire::queued::Request;
 
 const NONE: [Argument<u32, Part>; ARGUMENTS] = [Argument::Uint(0); ARGUMENTS];
@@ -64,20 +64,20 @@ fn head_text(head: Head) -> &'static str {
     }
 }
 
-fn reading_text(reading: Reading) -> &'static str {
+fn reading_text(reading: Result<(), ReadError>) -> &'static str {
     match reading {
-        Reading::Done => "read",
-        Reading::Malformed => "malformed",
-        Reading::Nothing => "nothing",
-        Reading::Short => "short",
+        Ok(()) => "read",
+        Err(ReadError::Malformed) => "malformed",
+        Err(ReadError::Nothing) => "nothing",
+        Err(ReadError::Short) => "short",
     }
 }
 
-fn writing_text(writing: Writing) -> &'static str {
+fn writing_text(writing: Result<(), WriteError>) -> &'static str {
     match writing {
-        Writing::Taken => "taken",
-        Writing::Refused => "refused",
-        Writing::BadSize => "too large",
+        Ok(()) => "taken",
+        Err(WriteError::Refused) => "refused",
+        Err(WriteError::BadSize) => "too large",
     }
 }
 

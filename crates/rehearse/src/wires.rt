@@ -6,7 +6,7 @@ use crate::session::refused;
 use message::Message;
 use protocol::argument::ArgumentType;
 use std::alloc::{AllocError, Global};
-use wire::answers::{Head, Reading, Writing};
+use wire::answers::{Head, ReadError, WriteError};
 use wire::metered::MeteredWire;
 use wire::queued::{QueueWire, Request};
 use wire::{BODY_BYTES, Wire};
@@ -161,7 +161,7 @@ fn on_wire<W: Wire>(
             read(heap, wire, place, &kinds, &mut desk.message, &mut desk.body)
         }
         CommonCall::Write(place, Some(event)) => written(heap, wire.write(place, &event)),
-        CommonCall::Write(_, None) => written(heap, Writing::BadSize),
+        CommonCall::Write(_, None) => written(heap, Err(WriteError::BadSize)),
         CommonCall::Flush(place) => {
             let carried = wire.flush(place);
             format!(in heap; "carried {carried}")
@@ -190,20 +190,20 @@ fn read<W: Wire>(
     body: &mut [u8],
 ) -> Result<String, AllocError> {
     match wire.read(place, kinds, message, body) {
-        Reading::Done => {
+        Ok(()) => {
             let before = if message.count == 0 { "read" } else { "read " };
             shown(heap, *message, body, before, " ")
         }
-        Reading::Malformed => String::from_str(heap, "malformed"),
-        Reading::Nothing => String::from_str(heap, "nothing"),
-        Reading::Short => String::from_str(heap, "short"),
+        Err(ReadError::Malformed) => String::from_str(heap, "malformed"),
+        Err(ReadError::Nothing) => String::from_str(heap, "nothing"),
+        Err(ReadError::Short) => String::from_str(heap, "short"),
     }
 }
 
-fn written(heap: Global, writing: Writing) -> Result<String, AllocError> {
+fn written(heap: Global, writing: Result<(), WriteError>) -> Result<String, AllocError> {
     match writing {
-        Writing::Taken => String::from_str(heap, "taken"),
-        Writing::Refused => String::from_str(heap, "refused"),
-        Writing::BadSize => String::from_str(heap, "too large"),
+        Ok(()) => String::from_str(heap, "taken"),
+        Err(WriteError::Refused) => String::from_str(heap, "refused"),
+        Err(WriteError::BadSize) => String::from_str(heap, "too large"),
     }
 }

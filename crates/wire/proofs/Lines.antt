@@ -1,5 +1,5 @@
 -- A line that is kept in queues.
-use Rattle.std.proofs.Common.{◌≡◌, ℕ, zero, suc, ◌-◌, ◌<◌, ◌≤◌, Bool, true, false, cond, eqb, ltb, List, [], ◌∷◌, ◌++◌, map, length, sym, refl, ap, ◌∙◌, arith}
+use Rattle.std.proofs.Common.{◌≡◌, ℕ, zero, suc, ◌-◌, ◌<◌, ◌≤◌, Bool, true, false, cond, eqb, ltb, List, [], ◌∷◌, ◌++◌, map, length, Ok, Err, sym, refl, ap, ◌∙◌, arith}
 use Rattle.std.proofs.lemmas.List.{length_push, map_push, length-map}
 use Rattle.std.proofs.lemmas.Bool.{lt-ltb, cond-true, cond-false, ne_eqb, eq-eqb}
 use Rattle.std.specs.Option.{option_map}
@@ -9,7 +9,7 @@ use Rattle.message.specs.declared.event.Event.{Event}
 use Rattle.queue.specs.Ring.{within_room, front}
 use Rattle.wire.specs.Line.{Line, Waiting, written, write_answer}
 use Rattle.wire.specs.Queued.{lined, received}
-use Rattle.wire.specs.declared.answers.Writing.TheVariants.{Taken, Refused, BadSize}
+use Rattle.wire.specs.declared.answers.WriteError.TheVariants.{Refused, BadSize}
 
 pub nth_map : {X Y : Type 0} (f : X → Y) (xs : List X) (i : ℕ) → option_map f (slice_get xs i) ≡ slice_get (map f xs) i
 nth_map f [] i = refl
@@ -22,7 +22,7 @@ front_map f (x ∷ xs) = refl
 
 module _ (rs : List Waiting) (broken : Bool) (xs : List Event) (room : ℕ) (e : Event) where
   -- no room
-  pub full_answer : room ≤ length xs → Refused ≡ write_answer (event_of e) (lined rs broken (map event_of xs) room)
+  pub full_answer : room ≤ length xs → Err Refused ≡ write_answer (event_of e) (lined rs broken (map event_of xs) room)
   full_answer h =
       let n : room - length (map event_of xs) ≡ 0 = omega (arith, length-map xs event_of) in
       sym (cond-true _ _ _ (eq-eqb (room - length (map event_of xs)) 0 n))
@@ -37,14 +37,14 @@ module _ (rs : List Waiting) (broken : Bool) (xs : List Event) (room : ℕ) (e :
     some = ne_eqb (room - length (map event_of xs)) 0 (λ z. omega (arith, length-map xs event_of))
 
     -- too large
-    pub large_answer : false ≡ sendable (event_of e) → BadSize ≡ write_answer (event_of e) (lined rs broken (map event_of xs) room)
+    pub large_answer : false ≡ sendable (event_of e) → Err BadSize ≡ write_answer (event_of e) (lined rs broken (map event_of xs) room)
     large_answer s = sym (cond-false _ _ _ some ∙ cond-false _ _ _ (sym s))
 
     pub large_stays : false ≡ sendable (event_of e) → written (event_of e) (lined rs broken (map event_of xs) room) ≡ lined rs broken (map event_of xs) room
     large_stays s = cond-false _ _ _ some ∙ cond-false _ _ _ (sym s)
 
     -- taken
-    pub taken_answer : true ≡ sendable (event_of e) → Taken ≡ write_answer (event_of e) (lined rs broken (map event_of xs) room)
+    pub taken_answer : true ≡ sendable (event_of e) → Ok tt ≡ write_answer (event_of e) (lined rs broken (map event_of xs) room)
     taken_answer s = sym (cond-false _ _ _ some ∙ cond-true _ _ _ (sym s))
 
     pub taken_line : true ≡ sendable (event_of e) → lined rs broken (map event_of (within_room room e xs)) room ≡ written (event_of e) (lined rs broken (map event_of xs) room)

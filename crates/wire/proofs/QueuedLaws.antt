@@ -1,5 +1,5 @@
 -- What goes into a queue wire comes out again.
-use Rattle.std.proofs.Common.{◌≡◌, ℕ, ◌≤◌, Bool, true, false, cond, ltb, leb, List, [], ◌∷◌, ◌++◌, map, length, Some, None, sym, refl, ap, ◌∙◌, arith}
+use Rattle.std.proofs.Common.{◌≡◌, ℕ, ◌≤◌, Bool, true, false, cond, ltb, leb, List, [], ◌∷◌, ◌++◌, map, length, Some, None, Err, Result, sym, refl, ap, ◌∙◌, arith}
 use Rattle.std.proofs.lemmas.Bool.{le-ltb, le-leb, and_from, cond-true, cond-false}
 use Rattle.protocol.specs.Kinds.{kind_of, same_type, agree}
 use Rattle.protocol.specs.declared.argument.Argument.{Argument}
@@ -7,8 +7,8 @@ use Rattle.protocol.specs.declared.argument.Argument.TheVariants.{Int, Uint, Fix
 use Rattle.protocol.specs.declared.argument.ArgumentType.{ArgumentType}
 use Rattle.message.specs.Meaning.{said}
 use Rattle.queue.specs.Ring.{front}
-use Rattle.wire.specs.declared.answers.Reading.{Reading}
-use Rattle.wire.specs.declared.answers.Reading.TheVariants.{Done, Malformed, Short}
+use Rattle.wire.specs.declared.answers.ReadError.{ReadError}
+use Rattle.wire.specs.declared.answers.ReadError.TheVariants.{Malformed, Short}
 use Rattle.wire.specs.declared.queued.Request.{Request}
 use Rattle.wire.specs.Line.{Line, Waiting, reads, read_answer, content_of, answered, said as said_of}
 use Rattle.wire.specs.Queued.{waiting, well_formed, received}
@@ -40,32 +40,26 @@ put_comes_out r l size none large b a =
     ∙ ap (λ (ws : List Waiting). content_of (own_signature r) (front (ws ++ waiting r ∷ []))) none
     ∙ cond-true (well_formed r (own_signature r)) (Some (made r)) None (own_form r b a)
 
-abbrev reading_of : Bool → Request → Reading
+abbrev reading_of : Bool → Request → Result (Unit {0}) ReadError
 reading_of b r = said_of (cond b (Some (made r)) None)
 
 malformed_is : (r : Request) (rest : List Waiting) (l : Line) (size : ℕ) (signature : List ArgumentType) → 4096 ≤ size → l.requests ≡ waiting r ∷ rest
-    → well_formed r signature ≡ false → read_answer size signature l ≡ Malformed
+    → well_formed r signature ≡ false → read_answer size signature l ≡ Err Malformed
 malformed_is r rest l size signature large first bad =
-    cond-false (ltb size 4096) Short _ (le-ltb size 4096 large)
+    cond-false (ltb size 4096) (Err Short) _ (le-ltb size 4096 large)
     ∙ ap (λ (ws : List Waiting). answered signature (front ws)) first
     ∙ ap (λ (b : Bool). reading_of b r) bad
 
-never_done : Done ≡ Malformed → ⊥
-never_done e = let z : ◌≡◌ {A = ℕ} 0 1 = cc in omega arith
-
-never_short : Short ≡ Malformed → ⊥
-never_short e = let z : ◌≡◌ {A = ℕ} 0 1 = cc in omega arith
-
-malformed_way : (short good : Bool) (r : Request) → cond short Short (reading_of good r) ≡ Malformed → good ≡ false
-malformed_way true good r e = absurd (never_short e)
-malformed_way false true r e = absurd (never_done e)
+malformed_way : (short good : Bool) (r : Request) → cond short (Err Short) (reading_of good r) ≡ Err Malformed → good ≡ false
+malformed_way true good r e = grind arith
+malformed_way false true r e = grind arith
 malformed_way false false r e = refl
 
 malformed_only : (r : Request) (rest : List Waiting) (l : Line) (size : ℕ) (signature : List ArgumentType) → l.requests ≡ waiting r ∷ rest
-    → read_answer size signature l ≡ Malformed → well_formed r signature ≡ false
+    → read_answer size signature l ≡ Err Malformed → well_formed r signature ≡ false
 malformed_only r rest l size signature first e =
     malformed_way (ltb size 4096) (well_formed r signature) r
-    (sym (ap (λ (ws : List Waiting). cond (ltb size 4096) Short (answered signature (front ws))) first) ∙ e)
+    (sym (ap (λ (ws : List Waiting). cond (ltb size 4096) (Err Short) (answered signature (front ws))) first) ∙ e)
 
 pub queued_laws : QueuedLaws
 queued_laws = record {

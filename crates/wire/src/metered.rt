@@ -4,7 +4,7 @@ ghost use Rattle.std.specs.Prelude.{◌≡◌, ℕ, replicate};
 ghost use Rattle.wire.specs.Metered.{metered};
 
 use crate::Wire;
-use crate::answers::{Head, Reading, Writing};
+use crate::answers::{Head, ReadError, WriteError};
 use message::{Event, Message};
 use protocol::argument::ArgumentType;
 
@@ -50,22 +50,22 @@ impl<W: Wire> Wire for MeteredWire<W> {
         signature: &[ArgumentType],
         message: &mut Message,
         body: &mut [u8],
-    ) -> Reading {
+    ) -> Result<(), ReadError> {
         if body.len() < crate::BODY_BYTES {
-            return Reading::Short;
+            return Err(ReadError::Short);
         }
         if place >= METERED_PLACES {
-            return Reading::Nothing;
+            return Err(ReadError::Nothing);
         }
         self.wire.read(place, signature, message, body)
     }
 
-    fn write(&mut self, place: usize, event: &Event) -> Writing {
+    fn write(&mut self, place: usize, event: &Event) -> Result<(), WriteError> {
         if place >= METERED_PLACES || self.left[place] == 0 {
-            return Writing::Refused;
+            return Err(WriteError::Refused);
         }
         let answer = self.wire.write(place, event);
-        if matches!(answer, Writing::Taken) {
+        if answer == Ok(()) {
             self.left[place] -= 1;
         }
         answer

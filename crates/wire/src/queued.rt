@@ -9,7 +9,7 @@ ghost use Rattle.std.specs.List.{slice_get};
 ghost use Rattle.wire.specs.QueuedLaws.{QueuedLaws};
 ghost use Rattle.wire.specs.Queued.{queue_line, waiting as waiting_of, well_formed, fresh, vacant, admitted, received, broken as broken_line};
 
-use crate::answers::{Head, Reading, Writing};
+use crate::answers::{Head, ReadError, WriteError};
 use crate::{BODY_BYTES, Wire};
 use message::{ARGUMENTS, Event, Message, lay};
 use protocol::argument::{ArgumentType, check_for_signature};
@@ -125,31 +125,31 @@ impl<'a, 'b> Wire for QueueWire<'a, 'b> {
         signature: &[ArgumentType],
         message: &mut Message,
         body: &mut [u8],
-    ) -> Reading {
+    ) -> Result<(), ReadError> {
         if body.len() < BODY_BYTES {
-            return Reading::Short;
+            return Err(ReadError::Short);
         }
         let Some(request) = self.requests.first(place) else {
-            return Reading::Nothing;
+            return Err(ReadError::Nothing);
         };
         if !is_formed(&request, signature) {
-            return Reading::Malformed;
+            return Err(ReadError::Malformed);
         }
         let _ = self.requests.pop_front(place);
         message.copy_from(request.message.as_slice());
         lay(request.body, body);
-        Reading::Done
+        Ok(())
     }
 
-    fn write(&mut self, place: usize, event: &Event) -> Writing {
+    fn write(&mut self, place: usize, event: &Event) -> Result<(), WriteError> {
         if self.events.len(place) >= self.events.room(place) {
-            return Writing::Refused;
+            return Err(WriteError::Refused);
         }
         if !event.is_sendable() {
-            return Writing::BadSize;
+            return Err(WriteError::BadSize);
         }
         let _ = self.events.push_back(place, *event);
-        Writing::Taken
+        Ok(())
     }
 
     fn flush(&mut self, place: usize) -> usize {
