@@ -59,4 +59,4 @@ the_row rows row = present (heading_in rows row) NoRow
 
 -- the global of a handle
 abbrev pub the_global : World → GlobalId → Result Global Refusal
-the_global w i = present (global_at w.engine.registry.globals i) NoGlobal
+the_global w i = present (global_at w.engine.registry.globals.places i) NoGlobal
