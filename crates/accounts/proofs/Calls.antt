@@ -4,7 +4,7 @@ use Rattle.std.proofs.lemmas.Bool.{cond_both, cond-true, cond-false, cases_Bool,
 use Rattle.std.specs.List.{slice_get}
 use Rattle.places.specs.Places.{at}
 use Rattle.map.specs.declared.DataMark.TheVariants.{Number}
-use Rattle.map.specs.declared.InvalidId.{InvalidId}
+use Rattle.map.specs.declared.fault.InvalidId.{InvalidId}
 use Rattle.map.specs.declared.Object.{Object}
 use Rattle.map.specs.declared.ObjectData.{ObjectData}
 use Rattle.map.specs.declared.ObjectMap.{ObjectMap}

@@ -1,6 +1,6 @@
 -- Looking for refusals: each check gives what was found, or the refusal, and the first refusal is the answer.
 use Rattle.std.specs.Prelude.{ℕ, Bool, true, false, List, Some, None, Ok, Err, Option, Result}
-use Rattle.map.specs.declared.InvalidId.{InvalidId}
+use Rattle.map.specs.declared.fault.InvalidId.{InvalidId}
 use Rattle.map.specs.declared.Object.{Object}
 use Rattle.map.specs.declared.ObjectData.{ObjectData}
 use Rattle.map.specs.Named.{lookup_in}

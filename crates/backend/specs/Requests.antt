@@ -2,7 +2,7 @@
 use Rattle.std.specs.Prelude.{ℕ, cond, not, ◌&&◌, List, [], ◌∷◌, length, Some, None, Ok, Err, Option, Result, ◌==◌, nat_lt}
 use Rattle.std.specs.Str.{bytes_eq}
 use Rattle.map.specs.declared.DataMark.TheVariants.{Own, Awaited}
-use Rattle.map.specs.declared.MapFault.{MapFault}
+use Rattle.map.specs.declared.fault.MapFault.{MapFault}
 use Rattle.map.specs.declared.Object.{Object}
 use Rattle.map.specs.declared.ObjectData.{ObjectData}
 use Rattle.map.specs.Map.{find_in, insert_answer}

@@ -7,7 +7,7 @@ use Rattle.places.proofs.Laws.{at_set_none, at_set_same, at_set_other, entry_wit
 use Rattle.places.proofs.Entries.{none_if, new_vacant}
 use Rattle.places.proofs.Search.{occupied_within}
 use Rattle.places.proofs.Vacant.{vacant_within, vacant_least, vacant_nowhere}
-use Rattle.map.specs.declared.MapFault.{MapFault}
+use Rattle.map.specs.declared.fault.MapFault.{MapFault}
 use Rattle.map.specs.declared.Object.{Object}
 use Rattle.map.specs.declared.ObjectMap.{ObjectMap}
 use Rattle.map.specs.Map.{limit, client_places, server_places, empty_map, find_in, put_at, removed, with_data, invalid, there, data_answer, data_over, data_after, insert_answer, inserted, new_answer, new_server, new_after}

@@ -6,7 +6,7 @@ use Rattle.places.specs.Tables.{entered_at, entered_in, replaced}
 use Rattle.places.specs.Laws.{Counted}
 use Rattle.places.proofs.Entries.{set_counted, put_counted, grown_above, named_capacity, named_counted, named_length}
 use Rattle.map.specs.declared.DataMark.{DataMark}
-use Rattle.map.specs.declared.InvalidId.{InvalidId}
+use Rattle.map.specs.declared.fault.InvalidId.{InvalidId}
 use Rattle.map.specs.declared.LocalId.{LocalId}
 use Rattle.map.specs.declared.Object.{Object}
 use Rattle.map.specs.declared.ObjectData.{ObjectData}

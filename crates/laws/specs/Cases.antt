@@ -1,6 +1,6 @@
 -- Worked cases of an entry at an id: at a map that holds only the id 1, and at one whose client's half was used up.
 use Rattle.std.specs.Prelude.{◌≡◌, Some, Ok, Err}
-use Rattle.map.specs.declared.MapFault.TheVariants.{Zero, Beyond, Taken, Full}
+use Rattle.map.specs.declared.fault.MapFault.TheVariants.{Zero, Beyond, Taken, Full}
 use Rattle.map.specs.declared.Object.{Object}
 use Rattle.map.specs.declared.ObjectMap.{ObjectMap}
 use Rattle.map.specs.Map.{client_places, empty_map, find_in, insert_answer, inserted}

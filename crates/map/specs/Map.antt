@@ -7,9 +7,9 @@ use Rattle.places.specs.declared.PlaceFault.TheVariants as place
 use Rattle.places.specs.declared.table.Table.{Table}
 use Rattle.places.specs.Places.{at, entry_at, first_vacant, occupied_from, or_else}
 use Rattle.places.specs.Tables.{empty_table, entered_at, entered_in, replaced}
-use Rattle.map.specs.declared.InvalidId.{InvalidId}
-use Rattle.map.specs.declared.MapFault.{MapFault}
-use Rattle.map.specs.declared.MapFault.TheVariants.{Zero, Beyond, Taken, Full}
+use Rattle.map.specs.declared.fault.InvalidId.{InvalidId}
+use Rattle.map.specs.declared.fault.MapFault.{MapFault}
+use Rattle.map.specs.declared.fault.MapFault.TheVariants.{Zero, Beyond, Taken, Full}
 use Rattle.map.specs.declared.Object.{Object}
 use Rattle.map.specs.declared.ObjectMap.{ObjectMap}
 

@@ -3,11 +3,14 @@
 #![tactic(auto)]
 
 ghost use Rattle.std.specs.Prelude.{◌≡◌};
-ghost use Rattle.map.specs.Map.{data_after, data_answer, empty_map, fault_of, find_in, insert_answer, inserted, new_after, new_answer, next_after, next_server, put_at, removed};
+ghost use Rattle.map.specs.Map.{data_after, data_answer, empty_map, find_in, insert_answer, inserted, new_after, new_answer, next_after, next_server, put_at, removed};
 
-use places::{PlaceFault, Table};
+use places::Table;
 
+mod fault;
 mod named;
+
+pub use fault::{InvalidId, MapFault};
 
 /// The first id of the server's half: lower ids are the client's to give out.
 pub const SERVER_ID_LIMIT: u32 = 0xFF00_0000;
@@ -46,30 +49,13 @@ pub struct Object<D> {
 }
 
 /// What names an object within its client: all three parts must agree, so that a name outlived by its id names nothing.
-#[derive(Clone, Copy)]
+#[derive(Clone, Copy, PartialEq, Eq, Debug)]
 pub struct LocalId {
     pub id: u32,
     pub serial: u32,
     /// the catalogue row of the interface
     pub row: u32,
 }
-
-/// Why an object was not entered at an id.
-#[derive(Clone, Copy, PartialEq, Eq, Debug)]
-pub enum MapFault {
-    /// the id is null
-    Zero,
-    /// the id is above the one after the highest ever used
-    Beyond,
-    /// the id names an object
-    Taken,
-    /// the half of the id has no more places
-    Full,
-}
-
-/// The error of a name that names no object.
-#[derive(Clone, Copy, PartialEq, Eq, Debug)]
-pub struct InvalidId;
 
 /// The objects of one client. The id 0 is null; the other ids below the limit have the client's places, from 1 on,
 /// and the rest the server's.
@@ -183,17 +169,5 @@ impl<D: Copy> ObjectMap<D> {
     {
         let place = self.server_objects.next(from)?;
         Some(place as u32 + SERVER_ID_LIMIT)
-    }
-}
-
-impl From<PlaceFault> for MapFault {
-    ghost from_gives = { λ e r. r ≡ fault_of e };
-
-    fn from(e: PlaceFault) -> MapFault {
-        match e {
-            PlaceFault::Beyond => MapFault::Beyond,
-            PlaceFault::Taken => MapFault::Taken,
-            PlaceFault::Full => MapFault::Full,
-        }
     }
 }

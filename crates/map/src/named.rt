@@ -10,10 +10,9 @@ impl ObjectMap<ObjectData> {
     pub fn lookup(&self, name: LocalId) -> Result<Object<ObjectData>, InvalidId>
         ensures { result ≡ lookup_in self.now name }
     {
-        match self.find(name.id) {
-            Some(found) if found.data.serial == name.serial && found.row == name.row => Ok(found),
-            _ => Err(InvalidId),
-        }
+        self.find(name.id)
+            .filter(|found| found.data.serial == name.serial && found.row == name.row)
+            .ok_or(InvalidId)
     }
 
     /// Sets the mark of the object that a name names, and keeps its serial, row and version.
