@@ -2,7 +2,7 @@
 use Rattle.std.proofs.Common.{◌≡◌, ℕ, zero, suc, ◌+◌, ◌-◌, ◌<◌, ◌≤◌, ltb, List, [], ◌∷◌, ◌++◌, length, get_or, take, drop, set, Some, None, sym, refl, ap, ◌∙◌, arith, length-append, length-drop, length-take}
 use Rattle.queue.specs.Ring.{turned, ring, stepped, front, others}
 use Rattle.std.proofs.lemmas.List.{take_more_set, take-append-le, take_more, drop_more, drop_all, take-take, append-nil, append_assoc, set-append_left, set-append_right, take-set-le, drop-set-add, drop-set-lt, get_or_append_left, get_or-append_right, get_or-take, get_or-drop}
-use Rattle.std.proofs.lemmas.Option.{slice_get_past, slice_get-get_or}
+use Rattle.std.proofs.lemmas.Option.{slice_get_past, slice_get-get_or, slice_get_within}
 use Rattle.std.proofs.lemmas.Bool.{ltb-true, ltb-false, cond_both}
 use Rattle.std.specs.List.{slice_get}
 use lib.Seq.{take-set-lt}
@@ -75,6 +75,9 @@ module _ {A : Type 0} (xs : List A) (h : ℕ) (inside : h ≤ length xs) (d : A)
 
 pub ring_past : {A : Type 0} (xs : List A) (h n i : ℕ) → n ≤ length xs → n ≤ i → None ≡ slice_get (ring xs h n) i
 ring_past xs h n i few past = sym (slice_get_past (ring xs h n) i (omega (arith, ring_length xs h n few)))
+
+pub ring_some : {A : Type 0} (xs : List A) (h n : ℕ) → n ≤ length xs → (i : ℕ) (x : A) → slice_get (ring xs h n) i ≡ Some x → i < n
+ring_some xs h n few i x there = omega (arith, slice_get_within (ring xs h n) i x there, ring_length xs h n few)
 
 pub ring_none : {A : Type 0} (xs : List A) (h : ℕ) → ring xs h 0 ≡ []
 unfolding ring

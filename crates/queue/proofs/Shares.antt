@@ -1,10 +1,10 @@
 -- The laws of a row of queues: a change at one place, and none at the others.
 use Rattle.std.proofs.Common.{◌≡◌, ℕ, zero, suc, ◌+◌, ◌-◌, ◌*◌, ◌/◌, ◌<◌, ◌≤◌, true, false, ◌||◌, eqb, ltb, leb, List, [], ◌∷◌, length, get_or, take, drop, set, Some, None, Option, sym, refl, ap, ◌∙◌, subst, ⊎_elim, mul-le-mul_right, suc-mul, arith}
-use Rattle.queue.proofs.Rings.{ring_none}
+use Rattle.queue.proofs.Rings.{ring_none, ring_length}
 use Rattle.queue.specs.Marks.{Sound, sound, fresh, usable, marked, held_in}
 use Rattle.queue.specs.Ring.{part, at_place}
 use Rattle.queue.specs.Rows.{share, seat, rows, rooms, room_in}
-use Rattle.queue.specs.Spans.{Spans}
+use Rattle.queue.specs.Spans.{Spans, Found}
 use Rattle.queue.specs.declared.Mark.{Mark}
 use Rattle.queue.specs.declared.Span.{Span}
 use Rattle.std.proofs.lemmas.List.{length-set}
@@ -12,6 +12,7 @@ use Rattle.std.proofs.lemmas.Option.{slice_get_past, slice_get-get_or}
 use Rattle.std.proofs.lemmas.Slice.{between_is, between-put_mid, take-put_mid_below, drop-put_mid}
 use Rattle.std.proofs.lemmas.Bool.{and_parts, or_cases, and_from, or_left, or_right, leb-true, ltb-true, eqb-true, eqb-false, le-leb, lt-ltb, eq-eqb, cases_lt, cases_eq, cases_order, cond-true, cond-false, cond_both}
 use Rattle.std.specs.List.{slice_get}
+use Rattle.std.specs.Option.{option_map, is_some, MatchOption}
 use borrow.Rule.Slice.PartMut.{put_mid, same_len_mid, mid_len}
 use native.Mathlib.Nat.{mul-div-le}
 
@@ -198,3 +199,21 @@ module _ {A : Type 0} (cells : List A) (marks : List Mark) (place : ℕ) (s : Sp
 
     pub cleared_rooms : (p : ℕ) → rooms cells (set marks place fresh) p ≡ rooms cells marks p
     cleared_rooms = rooms_same cells cells marks place s.mark fresh spans.known is (fresh_fits (share cells marks)) refl (λ p ne. refl)
+
+    -- how many items wait there
+    pub own_count : s.mark.count ≡ length (rows cells marks place)
+    own_count =
+        let few : s.mark.count ≤ length own = omega (arith, own_wide, spans.sound.1) in
+        sym (ring_length own s.mark.head s.mark.count few) ∙ ap length own_items
+
+-- the same where there may be no span
+module _ {A : Type 0} (cells : List A) (marks : List Mark) (place : ℕ) where
+  pub counted : (o : Option Span) (n : ℕ) → option_map (λ s. s.mark) o ≡ seat (share cells marks) marks place → Found (share cells marks) (length cells) (length marks) place o
+      → MatchOption o (n ≡ 0) (λ s. n ≡ s.mark.count) → n ≡ length (rows cells marks place)
+  counted None n is found counts = counts ∙ ap (λ (o : Option Mark). length (held_in (part (share cells marks) cells place) o)) is
+  counted (Some s) n is found counts = counts ∙ own_count cells marks place s found is
+
+  pub cleared : (o : Option Span) → is_some o ≡ true → option_map (λ s. s.mark) o ≡ seat (share cells marks) marks place → Found (share cells marks) (length cells) (length marks) place o
+      → ((p : ℕ) → rows cells (set marks place fresh) p ≡ at_place place (λ _. []) (rows cells marks) p) × ((p : ℕ) → rooms cells (set marks place fresh) p ≡ rooms cells marks p)
+  cleared None some is found = grind arith
+  cleared (Some s) some is found = (cleared_rows cells marks place s found is, cleared_rooms cells marks place s found is)
