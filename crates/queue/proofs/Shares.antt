@@ -1,5 +1,5 @@
 -- The laws of a row of queues: a change at one place, and none at the others.
-use Rattle.std.proofs.Common.{◌≡◌, ℕ, zero, suc, ◌+◌, ◌-◌, ◌*◌, ◌/◌, ◌<◌, ◌≤◌, true, false, ◌||◌, eqb, ltb, leb, List, [], ◌∷◌, length, get_or, take, drop, set, Some, None, Option, sym, refl, ap, ◌∙◌, subst, ⊎_elim, mul-le-mul_right, suc-mul, arith}
+use Rattle.std.proofs.Common.{◌≡◌, ℕ, zero, suc, ◌+◌, ◌-◌, ◌*◌, ◌/◌, ◌<◌, ◌≤◌, true, ◌||◌, eqb, ltb, leb, List, [], ◌∷◌, length, take, drop, set, Some, None, Option, sym, refl, ap, ◌∙◌, subst, ⊎_elim, mul-le-mul_right, suc-mul, arith}
 use Rattle.queue.proofs.Rings.{ring_none, ring_length}
 use Rattle.queue.specs.Marks.{Sound, sound, fresh, usable, marked, held_in}
 use Rattle.queue.specs.Ring.{part, at_place}
@@ -7,21 +7,13 @@ use Rattle.queue.specs.Rows.{share, seat, rows, rooms, room_in}
 use Rattle.queue.specs.Spans.{Spans, Found}
 use Rattle.queue.specs.declared.Mark.{Mark}
 use Rattle.queue.specs.declared.Span.{Span}
-use Rattle.std.proofs.lemmas.List.{length-set}
-use Rattle.std.proofs.lemmas.Option.{slice_get_past, slice_get-get_or}
+use Rattle.std.proofs.lemmas.List.{length-set, get_or-set_same}
+use Rattle.std.proofs.lemmas.Option.{slice_get-get_or}
 use Rattle.std.proofs.lemmas.Slice.{between_is, between-put_mid, take-put_mid_below, drop-put_mid}
-use Rattle.std.proofs.lemmas.Bool.{and_parts, or_cases, and_from, or_left, or_right, leb-true, ltb-true, eqb-true, eqb-false, le-leb, lt-ltb, eq-eqb, cases_lt, cases_eq, cases_order, cond-true, cond-false, cond_both}
+use Rattle.std.proofs.lemmas.Bool.{and_from, or_left, or_right, eqb-true, eqb-false, le-leb, lt-ltb, eq-eqb, cases_lt, cases_eq, cases_order, cond-true, cond_both}
 use Rattle.std.specs.List.{slice_get}
 use Rattle.std.specs.Option.{option_map, is_some, MatchOption}
 use borrow.Rule.Slice.PartMut.{put_mid, same_len_mid, mid_len}
-use native.Mathlib.Nat.{mul-div-le}
-
-pub sound_means : (w : ℕ) (m : Mark) → sound w m ≡ true → Sound w m
-sound_means w m t =
-    let both = and_parts (leb m.count w) (ltb m.head w || eqb w 0) t in (
-      λ some. ⊎_elim (ltb-true m.head w) (λ e. absurd (omega (arith, eqb-true w 0 e))) (or_cases (ltb m.head w) (eqb w 0) both.1),
-      leb-true m.count w both.0,
-    )
 
 pub sound_from : (w : ℕ) (m : Mark) → Sound w m → sound w m ≡ true
 sound_from w m s =
@@ -40,13 +32,8 @@ below p q w less =
     let one : suc p ≤ q = omega arith in
     omega (arith, suc-mul p w, mul-le-mul_right {m = suc p} {n = q} w one)
 
-pub share_inside : (total places p : ℕ) → p < places → p * (total / places) + total / places ≤ total
-share_inside total places p known = omega (arith, below p places (total / places) known, mul-div-le total places)
-
 nth_set_here : {X : Type 0} (xs : List X) (i : ℕ) (x : X) → i < length xs → slice_get (set xs i x) i ≡ Some x
-nth_set_here [] i x h = absurd (omega arith)
-nth_set_here (y ∷ ys) zero x h = refl
-nth_set_here (y ∷ ys) (suc i) x h = nth_set_here ys i x (omega arith)
+nth_set_here xs i x h = slice_get-get_or (set xs i x) i x (omega (arith, length-set xs i x)) ∙ ap Some (get_or-set_same xs i x x h)
 
 nth_set_other : {X : Type 0} (xs : List X) (i j : ℕ) (x : X) → (j ≡ i → ⊥) → slice_get (set xs i x) j ≡ slice_get xs j
 nth_set_other [] i j x ne = refl
@@ -54,15 +41,6 @@ nth_set_other (y ∷ ys) zero zero x ne = absurd (ne refl)
 nth_set_other (y ∷ ys) zero (suc j) x ne = refl
 nth_set_other (y ∷ ys) (suc i) zero x ne = refl
 nth_set_other (y ∷ ys) (suc i) (suc j) x ne = nth_set_other ys i j x (λ e. ne (ap suc e))
-
-pub seat_past : (w : ℕ) (marks : List Mark) (p : ℕ) → length marks ≤ p → None ≡ seat w marks p
-seat_past w marks p past = sym (ap (usable w) (slice_get_past marks p past))
-
-pub seat_unsound : (w : ℕ) (marks : List Mark) (p : ℕ) (d : Mark) → p < length marks → false ≡ sound w (get_or marks p d) → None ≡ seat w marks p
-seat_unsound w marks p d known bad = sym (ap (usable w) (slice_get-get_or marks p d known) ∙ cond-false (sound w (get_or marks p d)) (Some (get_or marks p d)) None (sym bad))
-
-pub seat_sound : (w : ℕ) (marks : List Mark) (p : ℕ) (d : Mark) → p < length marks → true ≡ sound w (get_or marks p d) → Some (get_or marks p d) ≡ seat w marks p
-seat_sound w marks p d known good = sym (ap (usable w) (slice_get-get_or marks p d known) ∙ cond-true (sound w (get_or marks p d)) (Some (get_or marks p d)) None (sym good))
 
 -- a new mark at a place, and new cells there
 module _ {A : Type 0} (cells cells' : List A) (marks : List Mark) (place : ℕ) (m m' : Mark)
