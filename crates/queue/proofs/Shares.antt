@@ -1,30 +1,25 @@
 -- The laws of a row of queues: a change at one place, and none at the others.
-use Rattle.std.proofs.Common.{◌≡◌, ℕ, zero, suc, ◌+◌, ◌-◌, ◌*◌, ◌/◌, ◌<◌, ◌≤◌, true, ◌||◌, eqb, ltb, leb, List, [], ◌∷◌, length, take, drop, set, Some, None, Option, sym, refl, ap, ◌∙◌, subst, ⊎_elim, mul-le-mul_right, suc-mul, arith}
+use Rattle.std.proofs.Common.{◌≡◌, ℕ, zero, suc, ◌+◌, ◌-◌, ◌*◌, ◌/◌, ◌<◌, ◌≤◌, true, List, [], ◌∷◌, length, take, drop, set, Some, None, Option, sym, refl, ap, ◌∙◌, subst, mul-le-mul_right, suc-mul, arith}
 use Rattle.queue.proofs.Rings.{ring_none, ring_length}
-use Rattle.queue.specs.Marks.{Sound, sound, fresh, usable, marked, held_in}
+use Rattle.queue.specs.Marks.{Sound, sound, fresh, marked, held_in}
 use Rattle.queue.specs.Ring.{part, at_place}
-use Rattle.queue.specs.Rows.{share, seat, rows, rooms, room_in}
+use Rattle.queue.specs.Rows.{share, seat, rows, rooms}
 use Rattle.queue.specs.Spans.{Spans, Found}
 use Rattle.queue.specs.declared.Mark.{Mark}
 use Rattle.queue.specs.declared.Span.{Span}
 use Rattle.std.proofs.lemmas.List.{length-set, get_or-set_same}
 use Rattle.std.proofs.lemmas.Option.{slice_get-get_or}
 use Rattle.std.proofs.lemmas.Slice.{between_is, between-put_mid, take-put_mid_below, drop-put_mid}
-use Rattle.std.proofs.lemmas.Bool.{and_from, or_left, or_right, eqb-true, eqb-false, le-leb, lt-ltb, eq-eqb, cases_lt, cases_eq, cases_order, cond-true, cond_both}
+use Rattle.std.proofs.lemmas.Bool.{cases_eq}
 use Rattle.std.specs.List.{slice_get}
 use Rattle.std.specs.Option.{option_map, is_some, MatchOption}
 use borrow.Rule.Slice.PartMut.{put_mid, same_len_mid, mid_len}
 
 pub sound_from : (w : ℕ) (m : Mark) → Sound w m → sound w m ≡ true
-sound_from w m s =
-    and_from (leb m.count w) (ltb m.head w || eqb w 0) (le-leb m.count w s.1)
-    (⊎_elim
-    (λ some. or_left (ltb m.head w) (eqb w 0) (lt-ltb m.head w (s.0 some)))
-    (λ none. or_right (ltb m.head w) (eqb w 0) (eq-eqb w 0 (omega arith)))
-    (cases_lt 0 w))
+sound_from w m s = grind arith
 
 pub fresh_fits : (w : ℕ) → sound w fresh ≡ true
-fresh_fits w = sound_from w fresh ((λ some. some), omega arith)
+fresh_fits w = grind arith
 
 -- the shares of places below one another
 pub below : (p q w : ℕ) → p < q → p * w + w ≤ q * w
@@ -54,31 +49,17 @@ module _ {A : Type 0} (cells cells' : List A) (marks : List Mark) (place : ℕ) 
     width_same = ap (λ (n : ℕ). n / length (set marks place m')) long ∙ ap (λ (n : ℕ). length cells / n) (length-set marks place m')
 
     seat_here : seat (share cells marks) (set marks place m') place ≡ Some m'
-    seat_here =
-        ap (usable (share cells marks)) (nth_set_here marks place m' known)
-        ∙ cond-true (sound (share cells marks) m') (Some m') None ok
+    seat_here = grind (arith, nth_set_here marks place m' known)
 
     seat_there : (p : ℕ) → (p ≡ place → ⊥) → seat (share cells marks) (set marks place m') p ≡ seat (share cells marks) marks p
-    seat_there p ne = ap (usable (share cells marks)) (nth_set_other marks place p m' ne)
+    seat_there p ne = grind (arith, nth_set_other marks place p m' ne)
 
     pub rows_changed : (f : List A → List A) → marked (part (share cells marks) cells' place) m' ≡ f (marked (part (share cells marks) cells place) m)
         → (p : ℕ) → rows cells' (set marks place m') p ≡ at_place place f (rows cells marks) p
-    rows_changed f holds p =
-        let w = share cells marks in
-        let at : ℕ → List A = λ q. held_in (part w cells' q) (seat w (set marks place m') q) in
-        let here : at place ≡ f (rows cells marks place) = ap (held_in (part w cells' place)) seat_here ∙ holds ∙ ap (λ (o : Option Mark). f (held_in (part w cells place) o)) is in
-        let same : p ≡ place → at p ≡ f (rows cells marks p) = λ e. subst (λ (q : ℕ). at q ≡ f (rows cells marks q)) (sym e) here in
-        let apart : (p ≡ place → ⊥) → at p ≡ rows cells marks p = λ ne. ap (λ (l : List A). held_in l (seat w (set marks place m') p)) (other p ne) ∙ ap (held_in (part w cells p)) (seat_there p ne) in
-        ap (λ (v : ℕ). held_in (part v cells' p) (seat v (set marks place m') p)) width_same
-        ∙ cond_both (eqb p place) (f (rows cells marks p)) (rows cells marks p) (λ (l : List A). at p ≡ l) (λ t. same (eqb-true p place t)) (λ t. apart (eqb-false p place t))
+    rows_changed f holds p = grind (arith, width_same, seat_here, seat_there p, other p, holds, is, cases_eq p place)
 
     pub rooms_same : (p : ℕ) → rooms cells' (set marks place m') p ≡ rooms cells marks p
-    rooms_same p =
-        let w = share cells marks in
-        let at : ℕ → ℕ = λ q. room_in w (seat w (set marks place m') q) in
-        let here : at place ≡ rooms cells marks place = ap (room_in w) seat_here ∙ ap (room_in w) is in
-        ap (λ (v : ℕ). room_in v (seat v (set marks place m') p)) width_same
-        ∙ ⊎_elim (λ e. subst (λ (q : ℕ). at q ≡ rooms cells marks q) (sym e) here) (λ ne. ap (room_in w) (seat_there p ne)) (cases_eq p place)
+    rooms_same p = grind (arith, width_same, seat_here, seat_there p, is, cases_eq p place)
 
 -- cells written in the part of one place
 module _ {A : Type 0} (cells ys : List A) (w place k : ℕ) (inside : place * w + w ≤ length cells) (wide : k ≡ w) (long : length ys ≡ w) where
@@ -89,16 +70,7 @@ module _ {A : Type 0} (cells ys : List A) (w place k : ℕ) (inside : place * w 
       between-put_mid (place * w) k cells ys (place * w + w) start same
 
   pub part_other : (p : ℕ) → (p ≡ place → ⊥) → part w (put_mid (place * w) k cells ys) p ≡ part w cells p
-  part_other p ne =
-      let start : place * w ≤ length cells = omega arith in
-      let same : length ys ≡ k = omega arith in
-      let under : p < place → part w (put_mid (place * w) k cells ys) p ≡ part w cells p =
-      λ less. between_is (put_mid (place * w) k cells ys) (p * w) (p * w + w)
-      ∙ ap (drop (p * w)) (take-put_mid_below (place * w) k cells ys (p * w + w) (below p place w less) start)
-      ∙ sym (between_is cells (p * w) (p * w + w)) in
-      let over : place < p → part w (put_mid (place * w) k cells ys) p ≡ part w cells p =
-      λ more. ap (take (p * w + w - p * w)) (drop-put_mid (place * w) k cells ys (p * w) (omega (arith, below place p w more)) start same) in
-      ⊎_elim (λ e. absurd (ne e)) (⊎_elim under over) (cases_order p place)
+  part_other p ne = grind (arith, between_is (put_mid (place * w) k cells ys) (p * w) (p * w + w), between_is cells (p * w) (p * w + w), take-put_mid_below (place * w) k cells ys (p * w + w), drop-put_mid (place * w) k cells ys (p * w), below p place w, below place p w)
 
 -- the same by a span, as the code has it
 module _ {A : Type 0} (cells : List A) (marks : List Mark) (place : ℕ) (s : Span)
@@ -110,9 +82,7 @@ module _ {A : Type 0} (cells : List A) (marks : List Mark) (place : ℕ) (s : Sp
     own = take (s.high - s.low) (drop s.low cells)
 
     own_part : own ≡ part (share cells marks) cells place
-    own_part =
-        ap (λ (h : ℕ). take (h - s.low) (drop s.low cells)) spans.high
-        ∙ ap (λ (l : ℕ). take (place * share cells marks + share cells marks - l) (drop l cells)) spans.low
+    own_part = grind (arith, spans.high, spans.low)
 
     pub own_wide : length own ≡ share cells marks
     own_wide =
@@ -121,12 +91,10 @@ module _ {A : Type 0} (cells : List A) (marks : List Mark) (place : ℕ) (s : Sp
         ap length own_part ∙ mid_len (place * w) (place * w + w) cells inside ∙ omega arith
 
     pub own_room : length own ≡ rooms cells marks place
-    own_room = own_wide ∙ ap (room_in (share cells marks)) is
+    own_room = grind (arith, own_wide, is)
 
     pub own_items : marked own s.mark ≡ rows cells marks place
-    own_items =
-        ap (λ (l : List A). marked l s.mark) own_part
-        ∙ ap (held_in (part (share cells marks) cells place)) is
+    own_items = grind (arith, own_part, is)
 
     -- what a write in the span leaves
     module _ (ys : List A) (m' : Mark) (long : length ys ≡ length own) (ok : Sound (length own) m') where
@@ -152,19 +120,14 @@ module _ {A : Type 0} (cells : List A) (marks : List Mark) (place : ℕ) (s : Sp
       left_long = same_len_mid s.low (s.high - s.low) cells ys long
 
       left_other : (p : ℕ) → (p ≡ place → ⊥) → part (share cells marks) left p ≡ part (share cells marks) cells p
-      left_other p ne =
-          ap (λ (l : List A). part (share cells marks) l p) left_is
-          ∙ part_other cells ys (share cells marks) place (s.high - s.low) inside wide width p ne
+      left_other p ne = grind (arith, left_is, part_other cells ys (share cells marks) place (s.high - s.low) inside wide width p ne)
 
       left_here : part (share cells marks) left place ≡ ys
-      left_here =
-          ap (λ (l : List A). part (share cells marks) l place) left_is
-          ∙ part_here cells ys (share cells marks) place (s.high - s.low) inside wide width
+      left_here = grind (arith, left_is, part_here cells ys (share cells marks) place (s.high - s.low) inside wide width)
 
       pub left_rows : (f : List A → List A) → marked ys m' ≡ f (marked own s.mark) → (p : ℕ) → rows left (set marks place m') p ≡ at_place place f (rows cells marks) p
       left_rows f holds =
-          rows_changed cells left marks place s.mark m' spans.known is fine left_long left_other f
-          (ap (λ (l : List A). marked l m') left_here ∙ holds ∙ ap (λ (l : List A). f (marked l s.mark)) own_part)
+          rows_changed cells left marks place s.mark m' spans.known is fine left_long left_other f (grind (arith, left_here, holds, own_part))
 
       pub left_rooms : (p : ℕ) → rooms left (set marks place m') p ≡ rooms cells marks p
       left_rooms = rooms_same cells left marks place s.mark m' spans.known is fine left_long left_other
