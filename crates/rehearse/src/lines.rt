@@ -10,7 +10,7 @@ use queue::Mark;
 use std::alloc::{AllocError, Global};
 use std::io;
 use wire::metered::MeteredWire;
-use wire::queued::{QueueWire, Request};
+use wire::queued::{Lent, QueueWire, Request};
 
 /// What comes of a line.
 #[derive(Drop)]
@@ -116,7 +116,7 @@ fn lent<'b>(heap: Global, _lines: &'b [String], plan: Plan) -> Result<Memory<'b>
         message: EMPTY,
         body: &[],
     };
-    let mark = Mark { head: 0, count: 0 };
+    let mark = Mark::new();
     let places = plan.places;
     Ok(Memory {
         requests: vec![in heap; request; places.saturating_mul(plan.requests)]?,
@@ -144,13 +144,13 @@ fn with_queue<'b>(
         mut taken,
         mut broken,
     } = lent(heap, lines, plan)?;
-    let wire = QueueWire::new(
-        &mut requests,
-        &mut waiting,
-        &mut events,
-        &mut taken,
-        &mut broken,
-    );
+    let wire = QueueWire::new(Lent {
+        requests: &mut requests,
+        waiting: &mut waiting,
+        events: &mut events,
+        taken: &mut taken,
+        broken: &mut broken,
+    });
     let Plan { places, events, .. } = plan;
     println!(rt; "queue wire: {places} places, {events} events each")?;
     let mut served = OverQueue { wire, desk };
@@ -175,13 +175,13 @@ fn with_metered<'b>(
         mut taken,
         mut broken,
     } = lent(heap, lines, plan)?;
-    let below = QueueWire::new(
-        &mut requests,
-        &mut waiting,
-        &mut events,
-        &mut taken,
-        &mut broken,
-    );
+    let below = QueueWire::new(Lent {
+        requests: &mut requests,
+        waiting: &mut waiting,
+        events: &mut events,
+        taken: &mut taken,
+        broken: &mut broken,
+    });
     let wire = MeteredWire::new(below, own);
     let Plan { places, events, .. } = plan;
     println!(rt; "metered wire of {own}: {places} places, {events} events each")?;

@@ -9,9 +9,11 @@ use message::{Event, Message};
 use protocol::argument::ArgumentType;
 
 /// How many places a metered wire has.
+// Fixed memory, and no Vec: nothing in a call of a wire may allocate.
 pub const METERED_PLACES: usize = 32;
 
 /// A wire that lies on another. It counts, place by place, what is left until the next flush.
+// No get_mut for the counts: tried, and what a field's array holds after one is not known to the check.
 #[derive(Drop)]
 pub struct MeteredWire<W> {
     /// the wire below
@@ -64,11 +66,9 @@ impl<W: Wire> Wire for MeteredWire<W> {
         if place >= METERED_PLACES || self.left[place] == 0 {
             return Err(WriteError::Refused);
         }
-        let answer = self.wire.write(place, event);
-        if answer == Ok(()) {
-            self.left[place] -= 1;
-        }
-        answer
+        self.wire.write(place, event)?;
+        self.left[place] -= 1;
+        Ok(())
     }
 
     fn flush(&mut self, place: usize) -> usize {
