@@ -1,18 +1,17 @@
 //! Events, and which of them a wire takes.
 
 ghost use Rattle.std.specs.Prelude.{◌≡◌, map};
-ghost use Rattle.message.specs.Events.{event_of, sendable, fits, weight as weight_of, clean as clean_of};
+ghost use Rattle.message.specs.Events.{event_of, bare, sendable, fits, weight as weight_of, clean as clean_of};
 ghost use Rattle.message.specs.Meaning.{meaning};
 
 use crate::{Message, Part, bytes_of};
 use protocol::argument::Argument;
-use protocol::checks::{NotZero, all_pass};
 
 /// The most bytes of texts and arrays in an event.
 pub const EVENT_BYTES: usize = 256;
 
 /// An event. Its size is fixed, so that a wire can keep it in memory that was lent beforehand.
-#[derive(Clone, Copy)]
+#[derive(Clone, Copy, Debug, PartialEq, Eq)]
 pub struct Event {
     pub sender: u32,
     pub opcode: u16,
@@ -22,6 +21,18 @@ pub struct Event {
 }
 
 impl Event {
+    /// An event with no arguments.
+    pub fn new(sender: u32, opcode: u16) -> Event
+        ensures { result ≡ bare sender opcode }
+    {
+        Event {
+            sender,
+            opcode,
+            message: Message::new(),
+            bytes: [0; EVENT_BYTES],
+        }
+    }
+
     /// Whether a wire takes the event where its allowance lasts: its texts and arrays have at most 256 bytes together, and no
     /// text holds a zero.
     pub fn is_sendable(&self) -> bool
@@ -65,7 +76,7 @@ fn is_clean(argument: Argument<u32, Part>, bytes: &[u8]) -> bool
     ensures { result ≡ clean_of (meaning bytes.now argument) }
 {
     match argument {
-        Argument::Str(Some(part)) => all_pass(bytes_of(bytes, part), &NotZero {}),
+        Argument::Str(Some(part)) => bytes_of(bytes, part).iter().all(|byte| *byte > 0),
         _ => true,
     }
 }
