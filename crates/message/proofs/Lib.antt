@@ -1,3 +1,1 @@
-mod Left
 mod Fits
-pub mod Laid

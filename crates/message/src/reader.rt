@@ -29,7 +29,6 @@ impl<'a> Reader<'a> {
             index: 0,
         }
     }
-
 }
 
 impl<'a> Iterator for Reader<'a> {
