@@ -1,5 +1,5 @@
 -- What an event means, and which events a wire takes.
-use Rattle.std.specs.Prelude.{ℕ, ◌+◌, ◌-◌, Bool, true, ◌&&◌, List, [], ◌∷◌, length, replicate, Some, None, Option, nat_le, nat_lt}
+use Rattle.std.specs.Prelude.{ℕ, ◌+◌, Bool, true, ◌&&◌, List, [], ◌∷◌, length, replicate, Some, None, Option, nat_le, nat_lt}
 use Rattle.protocol.specs.Tallies.{all}
 use Rattle.protocol.specs.declared.argument.Argument.{Argument}
 use Rattle.protocol.specs.declared.argument.Argument.TheVariants.{Int, Uint, Fixed, Str, Object, NewId, Array, Fd}
@@ -57,8 +57,3 @@ total (a ∷ more) = weight a + total more
 -- a wire takes an event whose texts and arrays have at most 256 bytes together, and no zero in a text
 abbrev pub sendable : EventModel → Bool
 sendable e = nat_le (total e.arguments) 256 && all clean e.arguments
-
--- the same, argument by argument, with the room that is left
-abbrev pub fits : ℕ → List (Argument ℕ (List ℕ)) → Bool
-fits room [] = true
-fits room (a ∷ more) = nat_le (weight a) room && (clean a && fits (room - weight a) more)
