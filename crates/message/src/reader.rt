@@ -1,9 +1,7 @@
 //! Reads the arguments of a message, one after the other.
 
-ghost use Rattle.std.specs.Prelude.{◌≡◌, drop, ⊤};
-ghost use Rattle.std.specs.Iterator.{YieldsFirstBy, item_count, MakesProgress};
-ghost use Rattle.std.specs.Option.{option_map};
-ghost use Rattle.std.specs.List.{slice_get};
+ghost use Rattle.std.specs.Prelude.{◌≡◌};
+ghost use Rattle.std.specs.Iterator.{YieldsFirstBy, item_count};
 ghost use Rattle.message.specs.Meaning.{meaning, meanings};
 ghost use Rattle.message.specs.Reading.{left, borrowed, ReaderLaws};
 
