@@ -1,47 +1,20 @@
 //! The texts of answers.
 
-use crate::command::Verb;
 use map::{DataMark, MapFault};
 use protocol::argument::{AllowNull, ArgumentType};
 use protocol::refusal::Refusal;
+use std::alloc::{AllocError, Global};
 use std::fmt;
+use wire::answers::{Head, Reading, Writing};
 
-/// What a call takes.
-pub fn usage(verb: Verb) -> &'static str {
-    match verb {
-        Verb::Enter => "enter ID ROW VERSION DATA, where DATA is own, awaited or a number",
-        Verb::Create => "create ROW VERSION DATA, where DATA is own, awaited or a number",
-        Verb::Find => "find ID",
-        Verb::Look => "look ID SERIAL ROW",
-        Verb::Set => "set ID SERIAL ROW NUMBER",
-        Verb::Remove => "remove ID",
-        Verb::Next => "next ID",
-        Verb::Catalogue => "catalogue ROWS",
-        Verb::Fill => {
-            "fill ROW NAME VERSION, and for each message request or event NAME SINCE plain|destructor CHILD KINDS, where CHILD is a row or -, and KINDS is - or a list with commas of int, uint, fixed, str, str?, object:ROW, object?:ROW, new_id, array and fd"
-        }
-        Verb::Row => "row ROW",
-        Verb::Request => "request ROW OPCODE",
-        Verb::Event => "event ROW OPCODE",
-        Verb::Same => "same ROW ROW",
-        Verb::Admits => "admits WANTED GIVEN",
-        Verb::Wire => {
-            "wire queue PLACES REQUESTS EVENTS or wire metered OWN PLACES REQUESTS EVENTS, with 1 to 64 places, and 0 to 256 cells of each kind"
-        }
-        Verb::Put => {
-            "put PLACE SENDER OPCODE ARG.., with at most 8 of int:N, uint:N, fixed:N, str:TEXT, str, object:ID, new_id:ID, array:TEXT and fd:N"
-        }
-        Verb::Break => "break PLACE",
-        Verb::Head => "head PLACE",
-        Verb::Read => {
-            "read PLACE KINDS, where KINDS is - or a list with commas of int, uint, fixed, str, str?, object, object?, new_id, array and fd"
-        }
-        Verb::Write => {
-            "write PLACE SENDER OPCODE ARG.., with int:N, uint:N, fixed:N, str:TEXT, str, object:ID, new_id:ID, array:TEXT and fd:N"
-        }
-        Verb::Flush => "flush PLACE",
-        Verb::Open => "open PLACE",
-        Verb::Events => "events PLACE",
+/// What came of a call, or why nothing did.
+pub fn said<T: fmt::Display + Drop, E: fmt::Display + Drop>(
+    heap: Global,
+    outcome: Result<T, E>,
+) -> Result<String, AllocError> {
+    match outcome {
+        Ok(done) => done.to_string(heap),
+        Err(error) => error.to_string(heap),
     }
 }
 
@@ -78,6 +51,51 @@ pub fn refusal_text(refusal: Refusal) -> &'static str {
     }
 }
 
+/// A call that was refused, by its number and its text.
+#[derive(Clone, Copy)]
+pub struct Refused(pub Refusal);
+
+impl fmt::Display for Refused {
+    fn fmt<W: fmt::Write>(&self, f: &mut fmt::Formatter<W>) -> fmt::Result {
+        let number = self.0.number();
+        let text = refusal_text(self.0);
+        write!(f, "refused {number}: {text}")
+    }
+}
+
+/// What a line's head tells.
+#[derive(Clone, Copy)]
+pub struct Waiting(pub Head);
+
+impl fmt::Display for Waiting {
+    fn fmt<W: fmt::Write>(&self, f: &mut fmt::Formatter<W>) -> fmt::Result {
+        match self.0 {
+            Head::Request(sender, opcode) => write!(f, "request {sender} {opcode}"),
+            Head::Broken => f.write_str("broken"),
+            Head::Nothing => f.write_str("nothing"),
+        }
+    }
+}
+
+/// Whether a request was read, or why it was not.
+pub fn read(reading: Reading) -> Result<(), &'static str> {
+    match reading {
+        Reading::Done => Ok(()),
+        Reading::Malformed => Err("malformed"),
+        Reading::Nothing => Err("nothing"),
+        Reading::Short => Err("short"),
+    }
+}
+
+/// Whether an event was taken, or why it was not.
+pub fn written(writing: Writing) -> Result<(), &'static str> {
+    match writing {
+        Writing::Taken => Ok(()),
+        Writing::Refused => Err("refused"),
+        Writing::BadSize => Err("too large"),
+    }
+}
+
 /// What is kept with an object.
 #[derive(Clone, Copy)]
 pub struct Mark(pub DataMark);
@@ -99,12 +117,10 @@ pub struct Name<'a>(pub &'a [u8]);
 impl<'a> fmt::Display for Name<'a> {
     fn fmt<W: fmt::Write>(&self, f: &mut fmt::Formatter<W>) -> fmt::Result {
         for byte in self.0 {
-            let shown = if *byte >= 32 && *byte <= 126 {
-                char::from(*byte)
-            } else {
-                '?'
-            };
-            f.write_char(shown)?;
+            f.write_char(match byte {
+                b' '..=b'~' => char::from(*byte),
+                _ => '?',
+            })?;
         }
         Ok(())
     }
