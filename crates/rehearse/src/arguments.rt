@@ -1,10 +1,9 @@
 //! Arguments as a script writes and shows them: `int:-3`, `str:TEXT`, and `str` for a null text.
 
-use crate::described::kind_without_row;
-use crate::texts::Name;
+use crate::texts::{Kind, Name};
 use crate::words::{Misread, Words, number_of};
 use message::{ARGUMENTS, EVENT_BYTES, Event, Message, Part, Reader, bytes_of, lay};
-use protocol::argument::{AllowNull, Argument, ArgumentType};
+use protocol::argument::{Argument, ArgumentType};
 use std::alloc::Global;
 use std::fmt;
 
@@ -65,7 +64,8 @@ pub fn bare_event(sender: u32, opcode: u16) -> Event {
     }
 }
 
-/// An event with arguments that are parts of a line, or none where it has no room for their bytes: they are copied, one after the other.
+/// An event with arguments that are parts of a line, or none where it has no room for their bytes: they are copied, one after
+/// the other.
 pub fn event_of(sender: u32, opcode: u16, message: Message, line: &[u8]) -> Option<Event> {
     let mut event = bare_event(sender, opcode);
     event.message = message;
@@ -85,24 +85,15 @@ pub fn event_of(sender: u32, opcode: u16, message: Message, line: &[u8]) -> Opti
     Some(event)
 }
 
-/// The kinds of a word, `-` or a list with commas.
+/// The kinds of a word, `-` or a list with commas. A wire knows no rows, so an object's kind is written without one.
 pub fn signature(heap: Global, word: &str) -> Result<Vec<ArgumentType>, Misread> {
     let mut kinds = Vec::new(heap);
     if word != "-" {
         for name in word.split(',') {
-            kinds.push(kind_of_argument(name).ok_or(Misread::Words)?)?;
+            kinds.push(name.parse::<Kind>()?.0)?;
         }
     }
     Ok(kinds)
-}
-
-// A wire knows no rows, so an object's kind is written without one.
-fn kind_of_argument(word: &str) -> Option<ArgumentType> {
-    match word {
-        "object" => Some(ArgumentType::Object(AllowNull::No)),
-        "object?" => Some(ArgumentType::Object(AllowNull::Yes)),
-        _ => kind_without_row(word),
-    }
 }
 
 /// The arguments of a message beside its body, with a text between two.

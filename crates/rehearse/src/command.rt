@@ -56,7 +56,7 @@ pub enum WireCall {
     Open(usize),
 }
 
-/// One call that the session's objects or its catalogue are changed or searched by.
+/// A call to the session's objects, or one that makes or fills its catalogue.
 #[derive(Drop)]
 pub enum Command {
     Enter(u32, NewObject),
@@ -189,10 +189,8 @@ fn write(words: &mut Words<'_>) -> Result<WireCall, Misread> {
     let place = words.place()?;
     let sender = words.number()?;
     let opcode = words.opcode()?;
-    let event = match arguments_of(words)? {
-        Some(message) => event_of(sender, opcode, message, words.line().as_bytes()),
-        None => None,
-    };
+    let line = words.line().as_bytes();
+    let event = arguments_of(words)?.and_then(|message| event_of(sender, opcode, message, line));
     Ok(WireCall::Write(place, event))
 }
 

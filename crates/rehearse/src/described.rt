@@ -1,8 +1,9 @@
 //! An interface as a session writes it: `NAME VERSION`, and then for each message
 //! `request` or `event`, `NAME SINCE plain|destructor CHILD KINDS`.
 
+use crate::texts::Kind;
 use crate::words::{Misread, Words, number_of};
-use protocol::argument::{AllowNull, ArgumentType};
+use protocol::argument::ArgumentType;
 use protocol::interface::{InterfaceBuf, MessageBuf};
 use std::alloc::Global;
 
@@ -64,29 +65,17 @@ fn child_of(word: &str) -> Result<Option<u32>, Misread> {
 
 // Adds an argument of a kind, with its row where it is an object.
 fn add_kind(message: &mut MessageBuf, word: &str) -> Result<(), Misread> {
-    let (kind, row) = match word.split_once(':') {
-        Some(("object", row)) => (ArgumentType::Object(AllowNull::No), Some(number_of(row)?)),
-        Some(("object?", row)) => (ArgumentType::Object(AllowNull::Yes), Some(number_of(row)?)),
-        _ => (kind_without_row(word).ok_or(Misread::Words)?, None),
+    let (name, row) = match word.split_once(':') {
+        Some((name, row)) => (name, Some(number_of(row)?)),
+        None => (word, None),
     };
+    let Kind(kind) = name.parse()?;
+    if matches!(kind, ArgumentType::Object(_)) != row.is_some() {
+        return Err(Misread::Words);
+    }
     message.signature.push(kind)?;
     if let Some(row) = row {
         message.arg_interfaces.push(row)?;
     }
     Ok(())
-}
-
-/// The kind that a word names, of those that go with no row.
-pub fn kind_without_row(word: &str) -> Option<ArgumentType> {
-    match word {
-        "int" => Some(ArgumentType::Int),
-        "uint" => Some(ArgumentType::Uint),
-        "fixed" => Some(ArgumentType::Fixed),
-        "str" => Some(ArgumentType::Str(AllowNull::No)),
-        "str?" => Some(ArgumentType::Str(AllowNull::Yes)),
-        "new_id" => Some(ArgumentType::NewId),
-        "array" => Some(ArgumentType::Array),
-        "fd" => Some(ArgumentType::Fd),
-        _ => None,
-    }
 }

@@ -50,7 +50,7 @@ pub fn run(rt: &HostRuntime, lines: &[Line]) -> io::Result<()> {
 }
 
 impl<'r, 'b> Script<'r, 'b> {
-    // Answers the lines that are left, until one asks for a wire. A line that is no call changes nothing.
+    // Answers the lines that are left, until one asks for a wire, which is taken too. A line that is no call changes nothing.
     fn answer<F: FnMut(&'b str, WireCall) -> Result<String, AllocError>>(
         &mut self,
         mut serve: F,

@@ -1,10 +1,12 @@
 //! The texts of answers.
 
+use crate::words::Misread;
 use map::{DataMark, MapFault};
 use protocol::argument::{AllowNull, ArgumentType};
 use protocol::refusal::Refusal;
 use std::alloc::{AllocError, Global};
 use std::fmt;
+use std::str::FromStr;
 use wire::answers::{Head, Reading, Writing};
 
 /// What came of a call, or why nothing did.
@@ -144,5 +146,25 @@ impl fmt::Display for Kind {
             ArgumentType::Array => "array",
             ArgumentType::Fd => "fd",
         })
+    }
+}
+
+impl FromStr for Kind {
+    type Err = Misread;
+
+    fn from_str(word: &str) -> Result<Kind, Misread> {
+        Ok(Kind(match word {
+            "int" => ArgumentType::Int,
+            "uint" => ArgumentType::Uint,
+            "fixed" => ArgumentType::Fixed,
+            "str" => ArgumentType::Str(AllowNull::No),
+            "str?" => ArgumentType::Str(AllowNull::Yes),
+            "object" => ArgumentType::Object(AllowNull::No),
+            "object?" => ArgumentType::Object(AllowNull::Yes),
+            "new_id" => ArgumentType::NewId,
+            "array" => ArgumentType::Array,
+            "fd" => ArgumentType::Fd,
+            _ => return Err(Misread::Words),
+        }))
     }
 }

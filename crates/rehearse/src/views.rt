@@ -58,7 +58,7 @@ struct Described<'a>(MessageDesc<'a>);
 
 impl<'a> fmt::Display for Described<'a> {
     fn fmt<W: fmt::Write>(&self, f: &mut fmt::Formatter<W>) -> fmt::Result {
-        let message = self.0;
+        let Described(message) = self;
         write!(f, "{} since {}", Name(message.name), message.since)?;
         if message.is_destructor {
             f.write_str(" destructor")?;
@@ -66,10 +66,10 @@ impl<'a> fmt::Display for Described<'a> {
         if let Some(child) = message.child_interface {
             write!(f, " child {child}")?;
         }
-        for kind in self.0.signature {
+        for kind in message.signature {
             write!(f, " {}", Kind(*kind))?;
         }
-        for row in self.0.arg_interfaces {
+        for row in message.arg_interfaces {
             write!(f, " :{row}")?;
         }
         Ok(())

@@ -13,6 +13,7 @@ use wire::queued::{QueueWire, Request};
 use wire::{BODY_BYTES, Wire};
 
 /// The other side of a wire: what comes in, and what waits to go out. The bodies of its requests live as long as `'b`.
+// The calls are passed on one by one: tried, and a method that lends the queue wire below by `&mut` gets no proof.
 pub trait FarSide<'b> {
     fn put(&mut self, place: usize, request: Request<'b>) -> Result<(), Refusal>;
 
