@@ -27,35 +27,24 @@ fn counts_of_rows(rt: HostRuntime) -> Result<(), Fail> {
     Ok(())
 }
 
-fn message(
-    heap: Global,
-    name: &[u8],
-    signature: &[ArgumentType],
-    child: Option<u32>,
-    rows: &[u32],
-) -> Result<MessageBuf, AllocError> {
-    Ok(MessageBuf {
-        name: Vec::from_slice(heap, name)?,
-        signature: Vec::from_slice(heap, signature)?,
-        since: 1,
-        is_destructor: false,
-        child_interface: child,
-        arg_interfaces: Vec::from_slice(heap, rows)?,
-    })
-}
-
 // A row with `count` requests like the one described, and no events.
 fn row(heap: Global, name: &[u8], count: u32, like: Described) -> Result<InterfaceBuf, AllocError> {
-    let mut requests = Vec::new(heap);
-    for _ in 0..count {
-        let request = message(heap, like.name, like.signature, like.child, like.rows)?;
-        requests.push(request)?;
-    }
     Ok(InterfaceBuf {
         name: Vec::from_slice(heap, name)?,
         version: 2,
-        requests,
+        requests: (0..count).map(|_| request(heap, like)).try_collect(heap)?,
         events: Vec::new(heap),
+    })
+}
+
+fn request(heap: Global, like: Described) -> Result<MessageBuf, AllocError> {
+    Ok(MessageBuf {
+        name: Vec::from_slice(heap, like.name)?,
+        signature: Vec::from_slice(heap, like.signature)?,
+        since: 1,
+        is_destructor: false,
+        child_interface: like.child,
+        arg_interfaces: Vec::from_slice(heap, like.rows)?,
     })
 }
 
@@ -69,17 +58,10 @@ const CONFIRM: Described = Described {
 
 // A catalogue of 6 rows, of which 4 and 5 have the same name.
 fn panels(heap: Global) -> Result<Filled, Fail> {
-    let Ok(mut made) = Filled::new(heap, 6) else {
-        return Err(Fail::new("not made"));
-    };
-    if made.fill(4, row(heap, b"film_panel", 1, CONFIRM)?).is_err() {
-        return Err(Fail::new("row 4"));
-    }
-    if made
-        .fill(5, row(heap, b"film_panel", 16, CONFIRM)?)
-        .is_err()
-    {
-        return Err(Fail::new("row 5"));
+    let mut made = Filled::new(heap, 6).map_err(|_| "not made")?;
+    for (number, count) in [(4, 1), (5, 16)] {
+        let panel = row(heap, b"film_panel", count, CONFIRM)?;
+        made.fill(number, panel).map_err(|_| "not filled")?;
     }
     Ok(made)
 }
@@ -111,11 +93,11 @@ fn names_tell_interfaces(rt: HostRuntime) -> Result<(), Fail> {
     Ok(())
 }
 
+// The number of the refusal, or 0 where the row is filled.
 fn refused(made: &mut Filled, number: u32, row: InterfaceBuf) -> u8 {
-    match made.fill(number, row) {
-        Err(refusal) => refusal.number(),
-        Ok(()) => 0,
-    }
+    made.fill(number, row)
+        .err()
+        .map_or(0, |refusal| refusal.number())
 }
 
 #[test]
@@ -242,8 +224,12 @@ fn kinds_and_signatures(rt: HostRuntime) {
 
 #[test]
 fn refusals_by_number(rt: HostRuntime) {
-    assert_eq!(rt; Refusal::BadSize.number(), 1);
-    assert_eq!(rt; Refusal::NoRow.number(), 14);
-    assert_eq!(rt; Refusal::NoVacancy.number(), 16);
-    assert_eq!(rt; Refusal::BreaksLaw.number(), 19);
+    for (refusal, number) in [
+        (Refusal::BadSize, 1),
+        (Refusal::NoRow, 14),
+        (Refusal::NoVacancy, 16),
+        (Refusal::BreaksLaw, 19),
+    ] {
+        assert_eq!(rt; refusal.number(), number);
+    }
 }

@@ -123,10 +123,7 @@ fn core_has(described: Described) -> bool {
     } else {
         core.request(described.row, described.opcode)
     };
-    match message {
-        Some(message) => is_as_described(message, described),
-        None => false,
-    }
+    message.is_some_and(|message| is_as_described(message, described))
 }
 
 #[test]
@@ -147,10 +144,7 @@ fn core_has_no_other_message(rt: HostRuntime) {
 }
 
 fn is_headed(row: u32, name: &[u8], version: u32) -> bool {
-    match (Core {}).heading(row) {
-        Some(heading) => heading.name == name && heading.version == version,
-        None => false,
-    }
+    (Core {}).heading(row).is_some_and(|heading| heading.name == name && heading.version == version)
 }
 
 #[test]

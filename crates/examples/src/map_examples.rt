@@ -89,9 +89,9 @@ fn data(rt: HostRuntime) {
 #[test]
 fn walk(rt: HostRuntime) {
     let mut map = ObjectMap::new();
-    assert_eq!(rt; map.insert_at(1, plain(1)), Ok(()));
-    assert_eq!(rt; map.insert_at(2, plain(2)), Ok(()));
-    assert_eq!(rt; map.insert_at(3, plain(3)), Ok(()));
+    for id in 1..4 {
+        assert_eq!(rt; map.insert_at(id, plain(id)), Ok(()));
+    }
     map.remove(2);
     assert_eq!(rt; map.server_insert_new(plain(4)), Some(SERVER_ID_LIMIT));
     assert_eq!(rt; map.next(0), Some(1));

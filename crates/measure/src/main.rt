@@ -5,80 +5,38 @@
 #![tactic(auto)]
 
 mod exchange;
+mod memory;
 mod timing;
 
-use exchange::{blank_event, request, run};
-use message::Event;
-use queue::Mark;
-use timing::time_calls;
+use memory::Memory;
+use wire::Wire;
 use wire::metered::MeteredWire;
-use wire::queued::{Lent, QueueWire};
 
-// 3 places with 2 request cells and 4 event cells each.
-fn over_queue(rt: &HostRuntime, body: &[u8]) -> anyhow::Result<()> {
-    let mut requests = [request(body); 6];
-    let mut waiting = [Mark::new(); 3];
-    let mut events: [Event; 12] = [blank_event(); 12];
-    let mut taken = [Mark::new(); 3];
-    let mut broken = [true; 3];
-    let mut wire = QueueWire::new(Lent {
-        requests: &mut requests,
-        waiting: &mut waiting,
-        events: &mut events,
-        taken: &mut taken,
-        broken: &mut broken,
-    });
-    println!(rt; "queue wire")?;
-    let _ = wire.put(1, request(body));
-    let _ = wire.set_broken(1);
-    run(rt, &mut wire)?;
-    time_calls(rt, &mut wire, "queue wire")
-}
-
-fn over_metered(rt: &HostRuntime, body: &[u8]) -> anyhow::Result<()> {
-    let mut requests = [request(body); 6];
-    let mut waiting = [Mark::new(); 3];
-    let mut events: [Event; 12] = [blank_event(); 12];
-    let mut taken = [Mark::new(); 3];
-    let mut broken = [true; 3];
-    let below = QueueWire::new(Lent {
-        requests: &mut requests,
-        waiting: &mut waiting,
-        events: &mut events,
-        taken: &mut taken,
-        broken: &mut broken,
-    });
-    let mut wire = MeteredWire::new(below, 3);
-    println!(rt; "metered wire of 3 over a queue wire")?;
-    let _ = wire.wire.put(1, request(body));
-    let _ = wire.wire.set_broken(1);
-    run(rt, &mut wire)?;
-    time_calls(rt, &mut wire, "metered wire")
-}
-
-fn over_two_meters(rt: &HostRuntime, body: &[u8]) -> anyhow::Result<()> {
-    let mut requests = [request(body); 6];
-    let mut waiting = [Mark::new(); 3];
-    let mut events: [Event; 12] = [blank_event(); 12];
-    let mut taken = [Mark::new(); 3];
-    let mut broken = [true; 3];
-    let below = QueueWire::new(Lent {
-        requests: &mut requests,
-        waiting: &mut waiting,
-        events: &mut events,
-        taken: &mut taken,
-        broken: &mut broken,
-    });
-    let mut wire = MeteredWire::new(MeteredWire::new(below, 2), 3);
-    println!(rt; "metered wire of 3 over a metered wire of 2 over a queue wire")?;
-    let _ = wire.wire.wire.put(1, request(body));
-    let _ = wire.wire.wire.set_broken(1);
-    run(rt, &mut wire)?;
-    time_calls(rt, &mut wire, "two metered wires")
+// Runs the exchange over a wire, under a title, and times its calls, under a name.
+fn drive<W: Wire + Drop>(
+    rt: &HostRuntime,
+    title: &str,
+    name: &str,
+    mut wire: W,
+) -> anyhow::Result<()> {
+    println!(rt; "{title}")?;
+    exchange::run(rt, &mut wire)?;
+    timing::time_calls(rt, &mut wire, name)
 }
 
 fn main(rt: HostRuntime) -> anyhow::Result<()> {
-    over_queue(&rt, b"lamp")?;
-    over_metered(&rt, b"lamp")?;
-    over_two_meters(&rt, b"lamp")
+    let lent = || Memory::new(rt.alloc(), b"lamp");
+    drive(&rt, "queue wire", "queue wire", lent()?.wire())?;
+    drive(
+        &rt,
+        "metered wire of 3 over a queue wire",
+        "metered wire",
+        MeteredWire::new(lent()?.wire(), 3),
+    )?;
+    drive(
+        &rt,
+        "metered wire of 3 over a metered wire of 2 over a queue wire",
+        "two metered wires",
+        MeteredWire::new(MeteredWire::new(lent()?.wire(), 2), 3),
+    )
 }

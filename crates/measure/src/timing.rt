@@ -17,14 +17,14 @@ pub fn time_calls<W: Wire>(rt: &HostRuntime, wire: &mut W, name: &str) -> anyhow
             broken = broken.saturating_add(1);
         }
     }
-    let heads = start.elapsed(rt)?.as_nanos() / 200_000;
+    let heads = start.elapsed(rt)?.as_nanos() / u128::from(TURNS);
     let sent = event(1);
     let start = Instant::now(rt)?;
     for _ in 0..TURNS {
         let _ = wire.write(1, &sent);
         let _ = wire.flush(1);
     }
-    let writes = start.elapsed(rt)?.as_nanos() / 200_000;
+    let writes = start.elapsed(rt)?.as_nanos() / u128::from(TURNS);
     eprintln!(rt; "{name}: head {heads} ns ({broken} broken), write and flush {writes} ns")?;
     Ok(())
 }

@@ -1,13 +1,15 @@
 //! The calls of a session, read from a line.
 
-use crate::arguments::{Listed, arguments_of, event_of, signature};
+use crate::arguments::{arguments_of, event_of, signature};
 use crate::described::interface;
-use crate::words::Words;
+use crate::verb::Verb;
+use crate::words::{Misread, Words};
 use map::{DataMark, LocalId, Object, ObjectData};
 use message::{Event, Message};
 use protocol::argument::ArgumentType;
 use protocol::interface::InterfaceBuf;
-use std::alloc::{AllocError, Global};
+use std::alloc::Global;
+use thiserror::Error;
 
 /// The most places of a wire.
 pub const PLACES: usize = 64;
@@ -15,39 +17,13 @@ pub const PLACES: usize = 64;
 /// The most cells of a place, for requests and for events each.
 pub const CELLS: usize = 256;
 
-/// What a call does.
-#[derive(Clone, Copy)]
-pub enum Verb {
-    Enter,
-    Create,
-    Find,
-    Look,
-    Set,
-    Remove,
-    Next,
-    Catalogue,
-    Fill,
-    Row,
-    Request,
-    Event,
-    Same,
-    Admits,
-    Wire,
-    Put,
-    Break,
-    Head,
-    Read,
-    Write,
-    Flush,
-    Open,
-    Events,
-}
-
 /// What a line asks for.
 #[derive(Drop)]
 pub enum Call {
     /// a call to the session
     Session(Command),
+    /// a look at the session's catalogue
+    View(View),
     /// a wire, in place of the one that there is
     Make(Plan),
     /// a call to the wire that there is
@@ -72,13 +48,6 @@ pub enum WireCall {
     Put(usize, u32, u16, Message),
     Break(usize),
     Events(usize),
-    /// a call that every wire has
-    Common(CommonCall),
-}
-
-/// A call at a place that every wire has; the others are made to the queue wire below.
-#[derive(Drop)]
-pub enum CommonCall {
     Head(usize),
     Read(usize, Vec<ArgumentType>),
     /// an event, or none where it has more arguments or bytes than an event can hold
@@ -87,7 +56,7 @@ pub enum CommonCall {
     Open(usize),
 }
 
-/// One call to the session.
+/// A call to the session's objects, or one that makes or fills its catalogue.
 #[derive(Drop)]
 pub enum Command {
     Enter(u32, NewObject),
@@ -99,6 +68,11 @@ pub enum Command {
     Next(u32),
     Catalogue(u32),
     Fill(u32, InterfaceBuf),
+}
+
+/// What a catalogue is asked.
+#[derive(Clone, Copy)]
+pub enum View {
     Row(u32),
     Request(u32, u16),
     Event(u32, u16),
@@ -128,138 +102,73 @@ impl NewObject {
 }
 
 /// Why a line is no call.
-#[derive(Clone, Copy)]
+#[derive(Debug, Drop, Error)]
 pub enum Mistake {
     /// the first word is no call's
+    #[error("expected enter, create, find, look, set, remove, next, catalogue, fill, row, request, event, same, admits, wire, put, break, head, read, write, flush, open or events")]
     Verb,
     /// the words after it are not what that call takes
+    #[error("expected {0}")]
     Usage(Verb),
+    #[error("out of memory")]
     NoMemory,
-}
-
-impl From<AllocError> for Mistake {
-    fn from(_: AllocError) -> Mistake {
-        Mistake::NoMemory
-    }
-}
-
-fn verb_of(word: &str) -> Option<Verb> {
-    match word {
-        "enter" => Some(Verb::Enter),
-        "create" => Some(Verb::Create),
-        "find" => Some(Verb::Find),
-        "look" => Some(Verb::Look),
-        "set" => Some(Verb::Set),
-        "remove" => Some(Verb::Remove),
-        "next" => Some(Verb::Next),
-        _ => catalogue_verb_of(word),
-    }
-}
-
-fn catalogue_verb_of(word: &str) -> Option<Verb> {
-    match word {
-        "catalogue" => Some(Verb::Catalogue),
-        "fill" => Some(Verb::Fill),
-        "row" => Some(Verb::Row),
-        "request" => Some(Verb::Request),
-        "event" => Some(Verb::Event),
-        "same" => Some(Verb::Same),
-        "admits" => Some(Verb::Admits),
-        _ => wire_verb_of(word),
-    }
-}
-
-fn wire_verb_of(word: &str) -> Option<Verb> {
-    match word {
-        "wire" => Some(Verb::Wire),
-        "put" => Some(Verb::Put),
-        "break" => Some(Verb::Break),
-        "head" => Some(Verb::Head),
-        "read" => Some(Verb::Read),
-        "write" => Some(Verb::Write),
-        "flush" => Some(Verb::Flush),
-        "open" => Some(Verb::Open),
-        "events" => Some(Verb::Events),
-        _ => None,
-    }
 }
 
 /// The call of a line, or none where the line is empty or a comment.
 pub fn read_call(heap: Global, line: &str) -> Result<Option<Call>, Mistake> {
     let mut words = Words::new(line);
-    let Some(first) = words.word() else {
+    let Some((_, first)) = words.next() else {
         return Ok(None);
     };
     if first.starts_with('#') {
         return Ok(None);
     }
-    let Some(verb) = verb_of(first) else {
-        return Err(Mistake::Verb);
-    };
-    match arguments(heap, verb, &mut words)? {
-        Some(call) => Ok(Some(call)),
-        None => Err(Mistake::Usage(verb)),
+    let verb = first.parse::<Verb>()?;
+    match arguments(heap, verb, &mut words) {
+        Ok(call) => Ok(Some(call)),
+        Err(Misread::Words) => Err(Mistake::Usage(verb)),
+        Err(Misread::NoMemory) => Err(Mistake::NoMemory),
     }
 }
 
-// The call with its arguments, or none where they are not what it takes.
-fn arguments(heap: Global, verb: Verb, words: &mut Words<'_>) -> Result<Option<Call>, AllocError> {
-    match verb {
-        Verb::Fill => fill(heap, words),
-        Verb::Read => read(heap, words),
-        _ => Ok(plain(verb, words)),
-    }
-}
-
-fn fill(heap: Global, words: &mut Words<'_>) -> Result<Option<Call>, AllocError> {
-    let Some(number) = words.number() else {
-        return Ok(None);
-    };
-    match interface(heap, words)? {
-        Some(row) => Ok(Some(Call::Session(Command::Fill(number, row)))),
-        None => Ok(None),
-    }
-}
-
-fn read(heap: Global, words: &mut Words<'_>) -> Result<Option<Call>, AllocError> {
-    let (Some(place), Some(kinds), Some(())) = (words.place(), words.word(), words.end()) else {
-        return Ok(None);
-    };
-    match signature(heap, kinds)? {
-        Some(kinds) => Ok(Some(common(CommonCall::Read(place, kinds)))),
-        None => Ok(None),
-    }
-}
-
-fn common(call: CommonCall) -> Call {
-    Call::Wire(WireCall::Common(call))
-}
-
-// The calls that are read without memory.
-fn plain(verb: Verb, words: &mut Words<'_>) -> Option<Call> {
+// The call with its arguments.
+fn arguments(heap: Global, verb: Verb, words: &mut Words<'_>) -> Result<Call, Misread> {
     let call = match verb {
-        Verb::Wire => Call::Make(read_plan(words)?),
+        Verb::Enter => Call::Session(Command::Enter(words.number()?, new_object(words)?)),
+        Verb::Create => Call::Session(Command::Create(new_object(words)?)),
+        Verb::Find => Call::Session(Command::Find(words.number()?)),
+        Verb::Look => Call::Session(Command::Look(local_id(words)?)),
+        Verb::Set => Call::Session(Command::Set(local_id(words)?, words.number()?)),
+        Verb::Remove => Call::Session(Command::Remove(words.number()?)),
+        Verb::Next => Call::Session(Command::Next(words.number()?)),
+        Verb::Catalogue => Call::Session(Command::Catalogue(words.number()?)),
+        Verb::Fill => Call::Session(Command::Fill(words.number()?, interface(heap, words)?)),
+        Verb::Row => Call::View(View::Row(words.number()?)),
+        Verb::Request => Call::View(View::Request(words.number()?, words.opcode()?)),
+        Verb::Event => Call::View(View::Event(words.number()?, words.opcode()?)),
+        Verb::Same => Call::View(View::Same(words.number()?, words.number()?)),
+        Verb::Admits => Call::View(View::Admits(words.number()?, words.number()?)),
+        Verb::Wire => Call::Make(new_plan(words)?),
         Verb::Put => Call::Wire(put(words)?),
         Verb::Break => Call::Wire(WireCall::Break(words.place()?)),
+        Verb::Head => Call::Wire(WireCall::Head(words.place()?)),
+        Verb::Read => Call::Wire(WireCall::Read(words.place()?, signature(heap, words.word()?)?)),
+        Verb::Write => return Ok(Call::Wire(write(words)?)),
+        Verb::Flush => Call::Wire(WireCall::Flush(words.place()?)),
+        Verb::Open => Call::Wire(WireCall::Open(words.place()?)),
         Verb::Events => Call::Wire(WireCall::Events(words.place()?)),
-        Verb::Head => common(CommonCall::Head(words.place()?)),
-        // what is left of its line does not matter where its arguments are too many
-        Verb::Write => return Some(common(write(words)?)),
-        Verb::Flush => common(CommonCall::Flush(words.place()?)),
-        Verb::Open => common(CommonCall::Open(words.place()?)),
-        _ => Call::Session(session_call(verb, words)?),
     };
     words.end()?;
-    Some(call)
+    Ok(call)
 }
 
-fn read_plan(words: &mut Words<'_>) -> Option<Plan> {
+fn new_plan(words: &mut Words<'_>) -> Result<Plan, Misread> {
     let own = match words.word()? {
         "queue" => None,
         "metered" => Some(words.place()?),
-        _ => return None,
+        _ => return Err(Misread::Words),
     };
-    Some(Plan {
+    Ok(Plan {
         own,
         places: words.between(1, PLACES)?,
         requests: words.between(0, CELLS)?,
@@ -267,62 +176,34 @@ fn read_plan(words: &mut Words<'_>) -> Option<Plan> {
     })
 }
 
-fn put(words: &mut Words<'_>) -> Option<WireCall> {
+fn put(words: &mut Words<'_>) -> Result<WireCall, Misread> {
     let place = words.place()?;
     let sender = words.number()?;
     let opcode = words.opcode()?;
-    match arguments_of(words)? {
-        Listed::Message(message) => Some(WireCall::Put(place, sender, opcode, message)),
-        Listed::TooMany => None,
-    }
+    let message = arguments_of(words)?.ok_or(Misread::Words)?;
+    Ok(WireCall::Put(place, sender, opcode, message))
 }
 
-fn write(words: &mut Words<'_>) -> Option<CommonCall> {
+// What is left of the line does not matter where the arguments are too many.
+fn write(words: &mut Words<'_>) -> Result<WireCall, Misread> {
     let place = words.place()?;
     let sender = words.number()?;
     let opcode = words.opcode()?;
-    let event = match arguments_of(words)? {
-        Listed::Message(message) => event_of(sender, opcode, message, words.line().as_bytes()),
-        Listed::TooMany => None,
-    };
-    Some(CommonCall::Write(place, event))
+    let line = words.line().as_bytes();
+    let event = arguments_of(words)?.and_then(|message| event_of(sender, opcode, message, line));
+    Ok(WireCall::Write(place, event))
 }
 
-fn session_call(verb: Verb, words: &mut Words<'_>) -> Option<Command> {
-    match verb {
-        Verb::Enter => Some(Command::Enter(words.number()?, new_object(words)?)),
-        Verb::Create => Some(Command::Create(new_object(words)?)),
-        Verb::Find => Some(Command::Find(words.number()?)),
-        Verb::Look => Some(Command::Look(local_id(words)?)),
-        Verb::Set => Some(Command::Set(local_id(words)?, words.number()?)),
-        Verb::Remove => Some(Command::Remove(words.number()?)),
-        Verb::Next => Some(Command::Next(words.number()?)),
-        _ => catalogue_call(verb, words),
-    }
-}
-
-fn catalogue_call(verb: Verb, words: &mut Words<'_>) -> Option<Command> {
-    match verb {
-        Verb::Catalogue => Some(Command::Catalogue(words.number()?)),
-        Verb::Row => Some(Command::Row(words.number()?)),
-        Verb::Request => Some(Command::Request(words.number()?, words.opcode()?)),
-        Verb::Event => Some(Command::Event(words.number()?, words.opcode()?)),
-        Verb::Same => Some(Command::Same(words.number()?, words.number()?)),
-        Verb::Admits => Some(Command::Admits(words.number()?, words.number()?)),
-        _ => None,
-    }
-}
-
-fn new_object(words: &mut Words<'_>) -> Option<NewObject> {
-    Some(NewObject {
+fn new_object(words: &mut Words<'_>) -> Result<NewObject, Misread> {
+    Ok(NewObject {
         row: words.number()?,
         version: words.number()?,
         mark: words.mark()?,
     })
 }
 
-fn local_id(words: &mut Words<'_>) -> Option<LocalId> {
-    Some(LocalId {
+fn local_id(words: &mut Words<'_>) -> Result<LocalId, Misread> {
+    Ok(LocalId {
         id: words.number()?,
         serial: words.number()?,
         row: words.number()?,

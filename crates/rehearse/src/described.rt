@@ -1,108 +1,81 @@
 //! An interface as a session writes it: `NAME VERSION`, and then for each message
 //! `request` or `event`, `NAME SINCE plain|destructor CHILD KINDS`.
 
-use crate::words::{Words, number_of};
-use protocol::argument::{AllowNull, ArgumentType};
+use crate::texts::Kind;
+use crate::words::{Misread, Words, number_of};
+use protocol::argument::ArgumentType;
 use protocol::interface::{InterfaceBuf, MessageBuf};
-use std::alloc::{AllocError, Global};
+use std::alloc::Global;
 
-/// The interface of the words that are left, or none where they do not describe one.
-pub fn interface(heap: Global, words: &mut Words<'_>) -> Result<Option<InterfaceBuf>, AllocError> {
-    let (Some(name), Some(version)) = (words.word(), words.number()) else {
-        return Ok(None);
-    };
+/// The interface of the words that are left.
+pub fn interface(heap: Global, words: &mut Words<'_>) -> Result<InterfaceBuf, Misread> {
     let mut row = InterfaceBuf {
-        name: Vec::from_slice(heap, name.as_bytes())?,
-        version,
+        name: Vec::from_slice(heap, words.word()?.as_bytes())?,
+        version: words.number()?,
         requests: Vec::new(heap),
         events: Vec::new(heap),
     };
-    // a row has at most 32 messages; more are refused by the catalogue, and no line has so many
-    for _ in 0..u16::MAX {
-        match words.word() {
-            None => return Ok(Some(row)),
-            Some("request") => match message(heap, words)? {
-                Some(request) => row.requests.push(request)?,
-                None => return Ok(None),
-            },
-            Some("event") => match message(heap, words)? {
-                Some(event) => row.events.push(event)?,
-                None => return Ok(None),
-            },
-            Some(_) => return Ok(None),
+    let described: Vec<&str> = words.map(|(_, word)| word).collect(heap)?;
+    for words in described.chunks(6) {
+        match words {
+            ["request", request @ ..] => row.requests.push(message(heap, request)?)?,
+            ["event", event @ ..] => row.events.push(message(heap, event)?)?,
+            _ => return Err(Misread::Words),
         }
     }
-    Ok(None)
+    Ok(row)
 }
 
-fn message(heap: Global, words: &mut Words<'_>) -> Result<Option<MessageBuf>, AllocError> {
-    let (Some(name), Some(since), Some(is_destructor)) = (
-        words.word(),
-        words.number(),
-        words.destructor(),
-    ) else {
-        return Ok(None);
-    };
-    let (Some(child_interface), Some(kinds)) = (words.child(), words.word()) else {
-        return Ok(None);
+fn message(heap: Global, words: &[&str]) -> Result<MessageBuf, Misread> {
+    let [name, since, ending, child, kinds] = words else {
+        return Err(Misread::Words);
     };
     let mut message = MessageBuf {
         name: Vec::from_slice(heap, name.as_bytes())?,
         signature: Vec::new(heap),
-        since,
-        is_destructor,
-        child_interface,
+        since: number_of(since)?,
+        is_destructor: is_destructor(ending)?,
+        child_interface: child_of(child)?,
         arg_interfaces: Vec::new(heap),
     };
-    if kinds == "-" {
-        return Ok(Some(message));
-    }
-    for kind in kinds.split(',') {
-        if !add_kind(&mut message, kind)? {
-            return Ok(None);
+    if *kinds != "-" {
+        for kind in kinds.split(',') {
+            add_kind(&mut message, kind)?;
         }
     }
-    Ok(Some(message))
+    Ok(message)
 }
 
-// Adds an argument of a kind, with its row where it is an object; says no where the word is no kind.
-fn add_kind(message: &mut MessageBuf, word: &str) -> Result<bool, AllocError> {
-    let Some((kind, row)) = kind_of(word) else {
-        return Ok(false);
+// Whether a message ends its sender.
+fn is_destructor(word: &str) -> Result<bool, Misread> {
+    match word {
+        "plain" => Ok(false),
+        "destructor" => Ok(true),
+        _ => Err(Misread::Words),
+    }
+}
+
+// A row number, or `-` for none.
+fn child_of(word: &str) -> Result<Option<u32>, Misread> {
+    match word {
+        "-" => Ok(None),
+        row => Ok(Some(number_of(row)?)),
+    }
+}
+
+// Adds an argument of a kind, with its row where it is an object.
+fn add_kind(message: &mut MessageBuf, word: &str) -> Result<(), Misread> {
+    let (name, row) = match word.split_once(':') {
+        Some((name, row)) => (name, Some(number_of(row)?)),
+        None => (word, None),
     };
+    let Kind(kind) = name.parse()?;
+    if matches!(kind, ArgumentType::Object(_)) != row.is_some() {
+        return Err(Misread::Words);
+    }
     message.signature.push(kind)?;
     if let Some(row) = row {
         message.arg_interfaces.push(row)?;
     }
-    Ok(true)
-}
-
-fn kind_of(word: &str) -> Option<(ArgumentType, Option<u32>)> {
-    match kind_without_row(word) {
-        Some(kind) => Some((kind, None)),
-        None => object_of(word),
-    }
-}
-
-/// The kind that a word names, of those that go with no row.
-pub fn kind_without_row(word: &str) -> Option<ArgumentType> {
-    match word {
-        "int" => Some(ArgumentType::Int),
-        "uint" => Some(ArgumentType::Uint),
-        "fixed" => Some(ArgumentType::Fixed),
-        "str" => Some(ArgumentType::Str(AllowNull::No)),
-        "str?" => Some(ArgumentType::Str(AllowNull::Yes)),
-        "new_id" => Some(ArgumentType::NewId),
-        "array" => Some(ArgumentType::Array),
-        "fd" => Some(ArgumentType::Fd),
-        _ => None,
-    }
-}
-
-fn object_of(word: &str) -> Option<(ArgumentType, Option<u32>)> {
-    if let Some(row) = word.strip_prefix("object:") {
-        return Some((ArgumentType::Object(AllowNull::No), Some(number_of(row)?)));
-    }
-    let row = word.strip_prefix("object?:")?;
-    Some((ArgumentType::Object(AllowNull::Yes), Some(number_of(row)?)))
+    Ok(())
 }

@@ -1,104 +1,133 @@
 //! The lines of a script, one after the other. A wire lives from the line that makes it to the next one that makes a wire.
 
-use crate::arguments::{EMPTY, bare_event};
-use crate::command::{Call, Mistake, Plan, read_call};
+ghost use Rattle.std.specs.Prelude.{◌≡◌, ◌<◌, length};
+ghost use Rattle.std.specs.declared.result.Result.TheVariants.{Ok};
+ghost use Rattle.std.specs.declared.option.Option.TheVariants.{Some};
+ghost use Rattle.rehearse.specs.declared.command.Plan.{Plan};
+
+use crate::command::{Call, Mistake, Plan, WireCall, read_call};
 use crate::session::Session;
-use crate::texts::usage;
-use crate::wires::{Desk, NoWire, OverMetered, OverQueue, Serves};
-use message::Event;
+use crate::wires::Over;
+use message::{Event, Message};
 use queue::Mark;
-use std::alloc::{AllocError, Global};
+use std::alloc::AllocError;
 use std::io;
 use wire::metered::MeteredWire;
 use wire::queued::{Lent, QueueWire, Request};
 
-/// What comes of a line.
+/// A line of a script.
 #[derive(Drop)]
-pub enum Outcome {
-    /// the answer, or none where the line is empty or a comment
-    Said(Option<String>),
-    /// a wire is asked for
-    Make(Plan),
+pub struct Line {
+    pub number: u64,
+    pub text: String,
 }
 
-// Where a wire ends: the line that comes next, and the wire that was asked for.
-#[derive(Clone, Copy)]
-struct Stop {
-    next: usize,
-    plan: Plan,
+/// A script that is run: the session, and the lines that are left.
+#[derive(Drop)]
+struct Script<'r, 'b> {
+    rt: &'r HostRuntime,
+    session: Session,
+    lines: &'b [Line],
 }
 
 /// Answers every line.
-pub fn run(rt: &HostRuntime, lines: &[String]) -> io::Result<()> {
-    let mut session = Session::new();
-    let mut stop = go(rt, &mut session, &mut NoWire {}, lines, 0)?;
-    // every round takes at least the line that asked for the wire
-    for _ in 0..lines.len() {
-        let Some(Stop { next, plan }) = stop else {
-            return Ok(());
-        };
-        stop = match plan.own {
-            None => with_queue(rt, &mut session, lines, next, plan)?,
-            Some(own) => with_metered(rt, &mut session, lines, next, plan, own)?,
-        };
+pub fn run(rt: &HostRuntime, lines: &[Line]) -> io::Result<()> {
+    let heap = rt.alloc();
+    let mut script = Script {
+        rt,
+        session: Session::new(heap),
+        lines,
+    };
+    let first = script.answer(|_, _| String::from_str(heap, "no wire was made"))?;
+    let Some(mut plan) = first else {
+        return Ok(());
+    };
+    while let Some(next) = script.answer_over(plan)? {
+        plan = next;
     }
     Ok(())
 }
 
-// Answers the lines from an index on, until one asks for a wire.
-fn go<'b, S: Serves<'b>>(
-    rt: &HostRuntime,
-    session: &mut Session,
-    served: &mut S,
-    lines: &'b [String],
-    first: usize,
-) -> io::Result<Option<Stop>> {
-    for index in first..lines.len() {
-        let next = index + 1;
-        let line = lines[index].as_str();
-        match answer_line(rt.alloc(), session, served, next, line)? {
-            Outcome::Said(None) => {}
-            Outcome::Said(Some(answer)) => println!(rt; "{answer}")?,
-            Outcome::Make(plan) => return Ok(Some(Stop { next, plan })),
+impl<'r, 'b> Script<'r, 'b> {
+    // Answers the lines that are left, until one asks for a wire, which is taken too. A line that is no call changes nothing.
+    fn answer<F: FnMut(&'b str, WireCall) -> Result<String, AllocError>>(
+        &mut self,
+        mut serve: F,
+    ) -> io::Result<Option<Plan>>
+        requires { F.IsAlwaysCallable serve }
+        ensures { (p : Plan) → result ≡ Ok (Some p) → length self.new.lines.now < length self.old.lines.now }
+    {
+        let rt = self.rt;
+        let heap = rt.alloc();
+        while let Some((line, rest)) = self.lines.split_first() {
+            self.lines = rest;
+            let text = line.text.as_str();
+            let answer = match read_call(heap, text) {
+                Ok(None) => continue,
+                Ok(Some(Call::Make(plan))) => return Ok(Some(plan)),
+                Ok(Some(Call::Session(command))) => self.session.perform(command)?,
+                Ok(Some(Call::View(view))) => self.session.view(view)?,
+                Ok(Some(Call::Wire(call))) => serve(text, call)?,
+                Err(Mistake::NoMemory) => return Err(AllocError.into()),
+                Err(mistake) => {
+                    let number = line.number;
+                    format!(in heap; "line {number}: {mistake}")?
+                }
+            };
+            println!(rt; "{answer}")?;
+        }
+        Ok(None)
+    }
+
+    // Answers them over a wire.
+    fn answer_over(&mut self, plan: Plan) -> io::Result<Option<Plan>>
+        ensures { (p : Plan) → result ≡ Ok (Some p) → length self.new.lines.now < length self.old.lines.now }
+    {
+        let rt = self.rt;
+        let heap = rt.alloc();
+        let mut memory = self.memory(plan)?;
+        let wire = memory.wire();
+        let Plan {
+            own,
+            places,
+            events,
+            ..
+        } = plan;
+        match own {
+            None => {
+                let mut over = Over::new(heap, wire)?;
+                println!(rt; "queue wire: {places} places, {events} events each")?;
+                self.answer(|line, call| over.perform(line, call))
+            }
+            Some(own) => {
+                let mut over = Over::new(heap, MeteredWire::new(wire, own))?;
+                println!(rt; "metered wire of {own}: {places} places, {events} events each")?;
+                self.answer(|line, call| over.perform(line, call))
+            }
         }
     }
-    Ok(None)
-}
 
-/// What comes of a line with a number. A line that is no call changes nothing.
-pub fn answer_line<'b, S: Serves<'b>>(
-    heap: Global,
-    session: &mut Session,
-    served: &mut S,
-    number: usize,
-    line: &'b str,
-) -> Result<Outcome, AllocError> {
-    let answer = match read_call(heap, line) {
-        Ok(None) => return Ok(Outcome::Said(None)),
-        Ok(Some(Call::Make(plan))) => return Ok(Outcome::Make(plan)),
-        Ok(Some(Call::Session(command))) => session.perform(heap, command)?,
-        Ok(Some(Call::Wire(call))) => served.serve(heap, line, call)?,
-        Err(mistake) => mistaken(heap, number, mistake)?,
-    };
-    Ok(Outcome::Said(Some(answer)))
-}
-
-fn mistaken(heap: Global, number: usize, mistake: Mistake) -> Result<String, AllocError> {
-    match mistake {
-        Mistake::Verb => {
-            format!(in heap;
-                "line {number}: expected enter, create, find, look, set, remove, next, catalogue, fill, row, request, event, same, admits, wire, put, break, head, read, write, flush, open or events"
-            )
-        }
-        Mistake::Usage(verb) => {
-            let usage = usage(verb);
-            format!(in heap; "line {number}: expected {usage}")
-        }
-        Mistake::NoMemory => Err(AllocError),
+    // The memory of a wire. The bodies of its requests live as long as the lines.
+    fn memory(&self, plan: Plan) -> Result<Memory<'b>, AllocError> {
+        let heap = self.rt.alloc();
+        let request = Request {
+            sender: 0,
+            opcode: 0,
+            message: Message::new(),
+            body: &[],
+        };
+        let places = plan.places;
+        Ok(Memory {
+            requests: vec![in heap; request; places.saturating_mul(plan.requests)]?,
+            waiting: vec![in heap; Mark::new(); places]?,
+            events: vec![in heap; Event::new(0, 0); places.saturating_mul(plan.events)]?,
+            taken: vec![in heap; Mark::new(); places]?,
+            broken: vec![in heap; false; places]?,
+        })
     }
 }
 
-// What a queue wire borrows. The bodies of its requests are lines of the script.
+// What a queue wire borrows.
 #[derive(Drop)]
 struct Memory<'b> {
     requests: Vec<Request<'b>>,
@@ -108,83 +137,14 @@ struct Memory<'b> {
     broken: Vec<bool>,
 }
 
-// The memory of a wire. It takes the lines so that the requests are known to live no longer than they do.
-fn lent<'b>(heap: Global, _lines: &'b [String], plan: Plan) -> Result<Memory<'b>, AllocError> {
-    let request = Request {
-        sender: 0,
-        opcode: 0,
-        message: EMPTY,
-        body: &[],
-    };
-    let mark = Mark::new();
-    let places = plan.places;
-    Ok(Memory {
-        requests: vec![in heap; request; places.saturating_mul(plan.requests)]?,
-        waiting: vec![in heap; mark; places]?,
-        events: vec![in heap; bare_event(0, 0); places.saturating_mul(plan.events)]?,
-        taken: vec![in heap; mark; places]?,
-        broken: vec![in heap; false; places]?,
-    })
-}
-
-// Goes on over a queue wire.
-fn with_queue<'b>(
-    rt: &HostRuntime,
-    session: &mut Session,
-    lines: &'b [String],
-    first: usize,
-    plan: Plan,
-) -> io::Result<Option<Stop>> {
-    let heap = rt.alloc();
-    let desk = Desk::new(heap)?;
-    let Memory {
-        mut requests,
-        mut waiting,
-        mut events,
-        mut taken,
-        mut broken,
-    } = lent(heap, lines, plan)?;
-    let wire = QueueWire::new(Lent {
-        requests: &mut requests,
-        waiting: &mut waiting,
-        events: &mut events,
-        taken: &mut taken,
-        broken: &mut broken,
-    });
-    let Plan { places, events, .. } = plan;
-    println!(rt; "queue wire: {places} places, {events} events each")?;
-    let mut served = OverQueue { wire, desk };
-    go(rt, session, &mut served, lines, first)
-}
-
-// Goes on over a metered wire.
-fn with_metered<'b>(
-    rt: &HostRuntime,
-    session: &mut Session,
-    lines: &'b [String],
-    first: usize,
-    plan: Plan,
-    own: usize,
-) -> io::Result<Option<Stop>> {
-    let heap = rt.alloc();
-    let desk = Desk::new(heap)?;
-    let Memory {
-        mut requests,
-        mut waiting,
-        mut events,
-        mut taken,
-        mut broken,
-    } = lent(heap, lines, plan)?;
-    let below = QueueWire::new(Lent {
-        requests: &mut requests,
-        waiting: &mut waiting,
-        events: &mut events,
-        taken: &mut taken,
-        broken: &mut broken,
-    });
-    let wire = MeteredWire::new(below, own);
-    let Plan { places, events, .. } = plan;
-    println!(rt; "metered wire of {own}: {places} places, {events} events each")?;
-    let mut served = OverMetered { wire, desk };
-    go(rt, session, &mut served, lines, first)
+impl<'b> Memory<'b> {
+    fn wire(&mut self) -> QueueWire<'_, 'b> {
+        QueueWire::new(Lent {
+            requests: &mut self.requests,
+            waiting: &mut self.waiting,
+            events: &mut self.events,
+            taken: &mut self.taken,
+            broken: &mut self.broken,
+        })
+    }
 }

@@ -1,80 +1,32 @@
 //! The texts of answers.
 
-use crate::command::Verb;
-use map::{DataMark, MapFault};
+use crate::words::Misread;
+use map::DataMark;
 use protocol::argument::{AllowNull, ArgumentType};
 use protocol::refusal::Refusal;
+use std::alloc::{AllocError, Global};
 use std::fmt;
+use std::str::FromStr;
 
-/// What a call takes.
-pub fn usage(verb: Verb) -> &'static str {
-    match verb {
-        Verb::Enter => "enter ID ROW VERSION DATA, where DATA is own, awaited or a number",
-        Verb::Create => "create ROW VERSION DATA, where DATA is own, awaited or a number",
-        Verb::Find => "find ID",
-        Verb::Look => "look ID SERIAL ROW",
-        Verb::Set => "set ID SERIAL ROW NUMBER",
-        Verb::Remove => "remove ID",
-        Verb::Next => "next ID",
-        Verb::Catalogue => "catalogue ROWS",
-        Verb::Fill => {
-            "fill ROW NAME VERSION, and for each message request or event NAME SINCE plain|destructor CHILD KINDS, where CHILD is a row or -, and KINDS is - or a list with commas of int, uint, fixed, str, str?, object:ROW, object?:ROW, new_id, array and fd"
-        }
-        Verb::Row => "row ROW",
-        Verb::Request => "request ROW OPCODE",
-        Verb::Event => "event ROW OPCODE",
-        Verb::Same => "same ROW ROW",
-        Verb::Admits => "admits WANTED GIVEN",
-        Verb::Wire => {
-            "wire queue PLACES REQUESTS EVENTS or wire metered OWN PLACES REQUESTS EVENTS, with 1 to 64 places, and 0 to 256 cells of each kind"
-        }
-        Verb::Put => {
-            "put PLACE SENDER OPCODE ARG.., with at most 8 of int:N, uint:N, fixed:N, str:TEXT, str, object:ID, new_id:ID, array:TEXT and fd:N"
-        }
-        Verb::Break => "break PLACE",
-        Verb::Head => "head PLACE",
-        Verb::Read => {
-            "read PLACE KINDS, where KINDS is - or a list with commas of int, uint, fixed, str, str?, object, object?, new_id, array and fd"
-        }
-        Verb::Write => {
-            "write PLACE SENDER OPCODE ARG.., with int:N, uint:N, fixed:N, str:TEXT, str, object:ID, new_id:ID, array:TEXT and fd:N"
-        }
-        Verb::Flush => "flush PLACE",
-        Verb::Open => "open PLACE",
-        Verb::Events => "events PLACE",
+/// What came of a call, or why nothing did.
+pub fn said<T: fmt::Display + Drop, E: fmt::Display + Drop>(
+    heap: Global,
+    outcome: Result<T, E>,
+) -> Result<String, AllocError> {
+    match outcome {
+        Ok(done) => done.to_string(heap),
+        Err(error) => error.to_string(heap),
     }
 }
 
-pub fn fault_text(fault: MapFault) -> &'static str {
-    match fault {
-        MapFault::Zero => "zero",
-        MapFault::Beyond => "beyond",
-        MapFault::Taken => "taken",
-        MapFault::Full => "full",
-    }
-}
+/// A call that was refused, by its number and its text.
+#[derive(Clone, Copy)]
+pub struct Refused(pub Refusal);
 
-pub fn refusal_text(refusal: Refusal) -> &'static str {
-    match refusal {
-        Refusal::BadSize => "a buffer is too small, or a text or an event too large",
-        Refusal::TicketOutstanding => "a ticket is outstanding",
-        Refusal::NoClient => "no such client",
-        Refusal::ClientKilled => "the client is killed",
-        Refusal::DeadObject => "the object is not live",
-        Refusal::Reserved => "the display and its delete_id are the engine's",
-        Refusal::NoEvent => "no such event at that version",
-        Refusal::BadSignature => "the arguments differ from the signature",
-        Refusal::OtherClient => "an argument belongs to another client",
-        Refusal::DeadArgument => "an argument is not live",
-        Refusal::NoChild => "a new id has no child row",
-        Refusal::WrongInterface => "an argument is of another interface",
-        Refusal::NullArgument => "null is not allowed",
-        Refusal::NoRow => "no such row",
-        Refusal::VersionAbove => "the version is above the row's",
-        Refusal::NoVacancy => "no place is vacant",
-        Refusal::NoGlobal => "no such global",
-        Refusal::WrongTicket => "not the outstanding ticket",
-        Refusal::BreaksLaw => "a law is broken",
+impl fmt::Display for Refused {
+    fn fmt<W: fmt::Write>(&self, f: &mut fmt::Formatter<W>) -> fmt::Result {
+        let Refused(refusal) = self;
+        write!(f, "refused {}: {refusal}", refusal.number())
     }
 }
 
@@ -99,12 +51,10 @@ pub struct Name<'a>(pub &'a [u8]);
 impl<'a> fmt::Display for Name<'a> {
     fn fmt<W: fmt::Write>(&self, f: &mut fmt::Formatter<W>) -> fmt::Result {
         for byte in self.0 {
-            let shown = if *byte >= 32 && *byte <= 126 {
-                char::from(*byte)
-            } else {
-                '?'
-            };
-            f.write_char(shown)?;
+            f.write_char(match byte {
+                b' '..=b'~' => char::from(*byte),
+                _ => '?',
+            })?;
         }
         Ok(())
     }
@@ -128,5 +78,25 @@ impl fmt::Display for Kind {
             ArgumentType::Array => "array",
             ArgumentType::Fd => "fd",
         })
+    }
+}
+
+impl FromStr for Kind {
+    type Err = Misread;
+
+    fn from_str(word: &str) -> Result<Kind, Misread> {
+        Ok(Kind(match word {
+            "int" => ArgumentType::Int,
+            "uint" => ArgumentType::Uint,
+            "fixed" => ArgumentType::Fixed,
+            "str" => ArgumentType::Str(AllowNull::No),
+            "str?" => ArgumentType::Str(AllowNull::Yes),
+            "object" => ArgumentType::Object(AllowNull::No),
+            "object?" => ArgumentType::Object(AllowNull::Yes),
+            "new_id" => ArgumentType::NewId,
+            "array" => ArgumentType::Array,
+            "fd" => ArgumentType::Fd,
+            _ => return Err(Misread::Words),
+        }))
     }
 }

@@ -1,90 +1,77 @@
 //! What a catalogue says, as text.
 
-use crate::texts::{Kind, Name};
+use crate::command::View;
+use crate::texts::{Kind, Name, said};
 use protocol::catalogue::{Catalogue, same_interface, same_interface_or_anonymous};
-use protocol::interface::MessageDesc;
+use protocol::interface::{Heading, MessageDesc};
 use std::alloc::{AllocError, Global};
+use std::fmt;
 
-pub fn row<C: Catalogue>(heap: Global, catalogue: &C, row: u32) -> Result<String, AllocError> {
-    match catalogue.heading(row) {
-        Some(heading) => {
-            let name = Name(heading.name);
-            let version = heading.version;
-            format!(in heap; "row {row} {name} version {version}")
-        }
-        None => String::from_str(heap, "none"),
+/// The answer to what a catalogue is asked.
+pub fn view<C: Catalogue>(heap: Global, catalogue: &C, view: View) -> Result<String, AllocError> {
+    match view {
+        View::Row(row) => said(
+            heap,
+            catalogue
+                .heading(row)
+                .map(|heading| Titled { row, heading })
+                .ok_or("none"),
+        ),
+        View::Request(row, opcode) => said(
+            heap,
+            catalogue.request(row, opcode).map(Described).ok_or("none"),
+        ),
+        View::Event(row, opcode) => said(
+            heap,
+            catalogue.event(row, opcode).map(Described).ok_or("none"),
+        ),
+        View::Same(a, b) => yes_or_no(heap, same_interface(catalogue, a, b)),
+        View::Admits(wanted, given) => yes_or_no(
+            heap,
+            same_interface_or_anonymous(catalogue, wanted, given),
+        ),
     }
-}
-
-pub fn request<C: Catalogue>(
-    heap: Global,
-    catalogue: &C,
-    row: u32,
-    opcode: u16,
-) -> Result<String, AllocError> {
-    match catalogue.request(row, opcode) {
-        Some(desc) => message(heap, desc),
-        None => String::from_str(heap, "none"),
-    }
-}
-
-pub fn event<C: Catalogue>(
-    heap: Global,
-    catalogue: &C,
-    row: u32,
-    opcode: u16,
-) -> Result<String, AllocError> {
-    match catalogue.event(row, opcode) {
-        Some(desc) => message(heap, desc),
-        None => String::from_str(heap, "none"),
-    }
-}
-
-pub fn same<C: Catalogue>(
-    heap: Global,
-    catalogue: &C,
-    a: u32,
-    b: u32,
-) -> Result<String, AllocError> {
-    yes_or_no(heap, same_interface(catalogue, a, b))
-}
-
-pub fn admits<C: Catalogue>(
-    heap: Global,
-    catalogue: &C,
-    wanted: u32,
-    given: u32,
-) -> Result<String, AllocError> {
-    yes_or_no(heap, same_interface_or_anonymous(catalogue, wanted, given))
 }
 
 fn yes_or_no(heap: Global, yes: bool) -> Result<String, AllocError> {
-    if yes {
-        String::from_str(heap, "yes")
-    } else {
-        String::from_str(heap, "no")
+    String::from_str(heap, if yes { "yes" } else { "no" })
+}
+
+// A row's number, name and version.
+#[derive(Clone, Copy)]
+struct Titled<'a> {
+    row: u32,
+    heading: Heading<'a>,
+}
+
+impl<'a> fmt::Display for Titled<'a> {
+    fn fmt<W: fmt::Write>(&self, f: &mut fmt::Formatter<W>) -> fmt::Result {
+        let row = self.row;
+        let Heading { name, version } = self.heading;
+        write!(f, "row {row} {} version {version}", Name(name))
     }
 }
 
-fn message(heap: Global, desc: MessageDesc<'_>) -> Result<String, AllocError> {
-    let name = Name(desc.name);
-    let since = desc.since;
-    let mut text = format!(in heap; "{name} since {since}")?;
-    if desc.is_destructor {
-        text.push_str(" destructor")?;
+// A message, with its child row, the kinds of its arguments and the rows of the objects among them.
+#[derive(Clone, Copy)]
+struct Described<'a>(MessageDesc<'a>);
+
+impl<'a> fmt::Display for Described<'a> {
+    fn fmt<W: fmt::Write>(&self, f: &mut fmt::Formatter<W>) -> fmt::Result {
+        let Described(message) = self;
+        write!(f, "{} since {}", Name(message.name), message.since)?;
+        if message.is_destructor {
+            f.write_str(" destructor")?;
+        }
+        if let Some(child) = message.child_interface {
+            write!(f, " child {child}")?;
+        }
+        for kind in message.signature {
+            write!(f, " {}", Kind(*kind))?;
+        }
+        for row in message.arg_interfaces {
+            write!(f, " :{row}")?;
+        }
+        Ok(())
     }
-    if let Some(child) = desc.child_interface {
-        let child = format!(in heap; " child {child}")?;
-        text.push_str(child.as_str())?;
-    }
-    for kind in desc.signature {
-        let kind = Kind(*kind);
-        let kind = format!(in heap; " {kind}")?;
-        text.push_str(kind.as_str())?;
-    }
-    for row in desc.arg_interfaces {
-        let row = format!(in heap; " :{row}")?;
-        text.push_str(row.as_str())?;
-    }
-    Ok(text)
 }
