@@ -37,6 +37,7 @@ pub enum StepAnswer {
 }
 
 /// What became of the child of a making ticket.
+// No bool: the two cases have names in the rules.
 #[derive(Clone, Copy, PartialEq, Eq, Debug)]
 pub enum ChildAnswer {
     /// it has its data
@@ -54,6 +55,7 @@ pub struct SettledMaking {
 }
 
 /// What became of an event. An event with the destructor mark ends its sender, whether or not the wire took it.
+// No Result: a lost event is no failure of the call, which ends the sender all the same.
 #[derive(Clone, Copy, PartialEq, Eq, Debug)]
 pub enum SendAnswer {
     /// the wire took it
@@ -73,6 +75,7 @@ pub struct ObjectInfo {
 }
 
 /// What a post or a kill did.
+// No bool: the two cases have names in the rules.
 #[derive(Clone, Copy, PartialEq, Eq, Debug)]
 pub enum KillAnswer {
     /// the client is killed for this reason, or as closed where the wire refused the error
@@ -82,6 +85,7 @@ pub enum KillAnswer {
 }
 
 /// What a disabling did.
+// No bool: the two cases have names in the rules.
 #[derive(Clone, Copy, PartialEq, Eq, Debug)]
 pub enum DisableAnswer {
     /// every registry of a client that is not killed was told

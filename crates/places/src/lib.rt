@@ -22,6 +22,8 @@ pub enum PlaceFault {
     Full,
 }
 
+// The places are lent, as the rules ask of a table of any kind, and so their length comes beside them; `Table` holds both.
+
 /// What a place holds; past the capacity nothing.
 pub fn look_at<T: Copy>(places: &[Option<T>], index: usize) -> Option<T>
     ensures { result ≡ at places.now index }

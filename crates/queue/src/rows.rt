@@ -74,6 +74,8 @@ impl<'a, T: Copy> Queues<'a, T> {
         mark.item(&self.cells[low..high], index).copied()
     }
 
+    // Each change says that the rooms stay: a ghost field speaks of one state, and not of what a call keeps.
+
     /// The item goes last at the place. It comes back where the place is full or
     /// there is no such place, and then nothing has changed. No other place changes.
     pub fn push_back(&mut self, place: usize, item: T) -> Result<(), T>
