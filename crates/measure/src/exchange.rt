@@ -2,8 +2,8 @@
 
 use message::{Event, Message, Part};
 use protocol::argument::{AllowNull, Argument, ArgumentType};
-use std::fmt;
-use wire::answers::{ReadError, WriteError};
+use std::fmt::Display;
+use std::io;
 use wire::queued::Request;
 use wire::{BODY_BYTES, Wire};
 
@@ -46,87 +46,54 @@ fn zero_text() -> Event {
     event_with(Argument::Str(Some(Part { start: 0, len: 1 })))
 }
 
-// What came of a call: the word for what it does, or why it did not.
-#[derive(Clone, Copy)]
-struct Said<E> {
-    done: &'static str,
+// Says that a call was done, or why it was not.
+fn say<E: Display + Drop>(
+    rt: &HostRuntime,
+    what: &str,
+    done: &str,
     outcome: Result<(), E>,
-}
-
-impl<E: fmt::Display> fmt::Display for Said<E> {
-    fn fmt<W: fmt::Write>(&self, f: &mut fmt::Formatter<W>) -> fmt::Result {
-        match &self.outcome {
-            Ok(()) => f.write_str(self.done),
-            Err(error) => error.fmt(f),
-        }
-    }
-}
-
-// What came of a read.
-fn read(outcome: Result<(), ReadError>) -> Said<ReadError> {
-    Said {
-        done: "read",
-        outcome,
-    }
-}
-
-// What came of a write.
-fn written(outcome: Result<(), WriteError>) -> Said<WriteError> {
-    Said {
-        done: "taken",
-        outcome,
+) -> io::Result<()> {
+    match outcome {
+        Ok(()) => println!(rt; "{what}: {done}"),
+        Err(error) => println!(rt; "{what}: {error}"),
     }
 }
 
 /// Reads, writes until the wire refuses, flushes and goes on.
-pub fn run<W: Wire>(rt: &HostRuntime, wire: &mut W) -> anyhow::Result<()> {
+pub fn run<W: Wire>(rt: &HostRuntime, wire: &mut W) -> io::Result<()> {
     reads(rt, wire)?;
     writes(rt, wire)?;
     wire.open(1);
-    println!(rt; "head after open: {}", wire.head(1))?;
-    Ok(())
+    println!(rt; "head after open: {}", wire.head(1))
 }
 
-fn reads<W: Wire>(rt: &HostRuntime, wire: &mut W) -> anyhow::Result<()> {
+fn reads<W: Wire>(rt: &HostRuntime, wire: &mut W) -> io::Result<()> {
     let mut message = Message::new();
     let mut body = [0; BODY_BYTES];
     let number = [ArgumentType::Uint];
     let text = [ArgumentType::Str(AllowNull::No)];
     println!(rt; "head: {}", wire.head(1))?;
-    let short = wire.read(1, &text, &mut message, &mut body[..8]);
-    println!(rt; "into 8 bytes: {}", read(short))?;
-    println!(rt;
-        "as a number: {}",
-        read(wire.read(1, &number, &mut message, &mut body))
-    )?;
-    println!(rt;
-        "as a text: {}",
-        read(wire.read(1, &text, &mut message, &mut body))
-    )?;
-    println!(rt;
-        "arguments {}, body begins {} {}",
-        message.count, body[0], body[1]
-    )?;
-    println!(rt;
-        "again: {}",
-        read(wire.read(1, &text, &mut message, &mut body))
-    )?;
+    let outcome = wire.read(1, &text, &mut message, &mut body[..8]);
+    say(rt, "into 8 bytes", "read", outcome)?;
+    let outcome = wire.read(1, &number, &mut message, &mut body);
+    say(rt, "as a number", "read", outcome)?;
+    let outcome = wire.read(1, &text, &mut message, &mut body);
+    say(rt, "as a text", "read", outcome)?;
+    let count = message.count;
+    println!(rt; "arguments {count}, body begins {} {}", body[0], body[1])?;
+    let outcome = wire.read(1, &text, &mut message, &mut body);
+    say(rt, "again", "read", outcome)?;
     println!(rt; "head: {}", wire.head(1))?;
-    println!(rt; "head of another place: {}", wire.head(0))?;
-    Ok(())
+    println!(rt; "head of another place: {}", wire.head(0))
 }
 
-fn writes<W: Wire>(rt: &HostRuntime, wire: &mut W) -> anyhow::Result<()> {
-    println!(rt;
-        "a zero in a text: {}",
-        written(wire.write(1, &zero_text()))
-    )?;
+fn writes<W: Wire>(rt: &HostRuntime, wire: &mut W) -> io::Result<()> {
+    say(rt, "a zero in a text", "taken", wire.write(1, &zero_text()))?;
     for number in 0..5 {
-        println!(rt; "event: {}", written(wire.write(1, &event(number))))?;
+        say(rt, "event", "taken", wire.write(1, &event(number)))?;
     }
     println!(rt; "carried {}", wire.flush(1))?;
-    println!(rt; "after the flush: {}", written(wire.write(1, &event(9))))?;
-    println!(rt; "at place 3: {}", written(wire.write(3, &event(9))))?;
-    println!(rt; "carried {}", wire.flush(1))?;
-    Ok(())
+    say(rt, "after the flush", "taken", wire.write(1, &event(9)))?;
+    say(rt, "at place 3", "taken", wire.write(3, &event(9)))?;
+    println!(rt; "carried {}", wire.flush(1))
 }
