@@ -4,7 +4,7 @@ use Rattle.std.proofs.lemmas.Bool.{cond_both, cond-true, cond-false, cases_Bool,
 use Rattle.std.specs.List.{slice_get}
 use Rattle.places.specs.Places.{at}
 use Rattle.map.specs.declared.DataMark.TheVariants.{Number}
-use Rattle.map.specs.declared.InvalidId.{InvalidId}
+use Rattle.map.specs.declared.fault.InvalidId.{InvalidId}
 use Rattle.map.specs.declared.Object.{Object}
 use Rattle.map.specs.declared.ObjectData.{ObjectData}
 use Rattle.map.specs.declared.ObjectMap.{ObjectMap}
@@ -35,8 +35,7 @@ use Rattle.backend.specs.declared.answers.KillAnswer.{KillAnswer}
 use Rattle.backend.specs.declared.ticket.Origin.{Origin}
 use Rattle.backend.specs.declared.ticket.Outstanding.{Outstanding}
 use Rattle.backend.specs.declared.ticket.Outstanding.TheVariants as out
-use Rattle.backend.specs.declared.ticket.PlainTicket.{PlainTicket}
-use Rattle.backend.specs.declared.ticket.MakingTicket.{MakingTicket}
+use Rattle.backend.specs.Tickets.{PlainTicket, MakingTicket}
 use Rattle.backend.specs.Ids.{local_of}
 use Rattle.backend.specs.Events.{global_remove}
 use Rattle.backend.specs.World.{Terms, World, is_live, client_at, named, with_state, with_map}
@@ -405,14 +404,14 @@ module _ (t : Terms) (lawful : Lawful t.rows) (n : ℕ) (ds : List Deed) (w : Wo
         record { kept = vacated_kept on.kept c a (client_same w c a there a refl) (none_living a.map none) (nobody none); same = refl }
 
   pub tidy_good : Calm (tidy_done w).run
-  tidy_good = go (lowest_killed 0 w.engine.store.clients) refl
+  tidy_good = go (lowest_killed 0 w.engine.store.clients.places) refl
     where
-      go : (v : Option Found) → lowest_killed 0 w.engine.store.clients ≡ v → Calm (tidy_at v w).run
+      go : (v : Option Found) → lowest_killed 0 w.engine.store.clients.places ≡ v → Calm (tidy_at v w).run
       go None e = still
       go (Some f) e =
-          let l = lowest_killed_lem 0 w.engine.store.clients f e in
+          let l = lowest_killed_lem 0 w.engine.store.clients.places f e in
           let there : client_at w (found_id f) ≡ Some f.client =
-          ap (named (found_id f)) (ap (at w.engine.store.clients) (let z : f.place ≡ f.place - 0 = omega arith in z) ∙ l.1) ∙ named_same (found_id f) f.client refl in
+          ap (named (found_id f)) (ap (at w.engine.store.clients.places) (let z : f.place ≡ f.place - 0 = omega arith in z) ∙ l.1) ∙ named_same (found_id f) f.client refl in
           tidy_act_good (found_id f) f.client there l.2 f.client.state (next_handle (found_id f) f.client 0) refl
 
   -- A step.
@@ -431,7 +430,7 @@ module _ (t : Terms) (lawful : Lawful t.rows) (n : ℕ) (ds : List Deed) (w : Wo
       free_is : (o : Outstanding) → is_free o ≡ true → o ≡ out.Nothing
       free_is out.Nothing f = refl
       free_is (out.Plain o) f = absurd (false≢true f)
-      free_is (out.Making o x y) f = absurd (false≢true f)
+      free_is (out.Making m) f = absurd (false≢true f)
 
       made : out_here ≡ out.Nothing → client_at w c ≡ Some a → is_live a.state ≡ true → After None n ds ps (record { answer = stepped (Ok (step_act t c b w a).value); run = (step_act t c b w a).run })
       made free there alive =
@@ -464,13 +463,13 @@ module _ (t : Terms) (lawful : Lawful t.rows) (n : ℕ) (ds : List Deed) (w : Wo
   settled_kept : (r : Run) → Kept None (suc n) (r.deeds ++ ds) r.world → Kept None (suc n) ((settled r).deeds ++ ds) (settled r).world
   settled_kept r q = apart_from r.world.lines r.world.engine.registry out.Nothing q.roll tt q
 
-  pub plain_good : (x : PlainTicket) → out_here ≡ out.Plain x.origin
-      → After (Some (plain x.origin)) n ds ps (record { answer = settled_plain (Ok (plain_act x.origin w).value); run = (plain_act x.origin w).run })
+  pub plain_good : (x : PlainTicket) → out_here ≡ out.Plain x.request
+      → After (Some (plain x.request)) n ds ps (record { answer = settled_plain (Ok (plain_act x.request w).value); run = (plain_act x.request w).run })
   plain_good x e =
-      let by : x.origin.sender.id ≢ 1 = subst Sender e k.sender in
-      let on = settle_sender_good x.origin by in
+      let by : x.request.sender.id ≢ 1 = subst Sender e k.sender in
+      let on = settle_sender_good x.request by in
       record {
-        kept = settled_kept (settle_sender x.origin (from w)).run (subst (λ (o : Outstanding). Kept (child_of (ticket_of o)) (suc n) ((settle_sender x.origin (from w)).run.deeds ++ ds) (settle_sender x.origin (from w)).run.world) e on.kept);
+        kept = settled_kept (settle_sender x.request (from w)).run (subst (λ (o : Outstanding). Kept (child_of (ticket_of o)) (suc n) ((settle_sender x.request (from w)).run.deeds ++ ds) (settle_sender x.request (from w)).run.world) e on.kept);
         paired = comes_back _ (subst (λ (o : Outstanding). Paired ps (ticket_of o)) e pd);
       }
 
@@ -507,13 +506,13 @@ module _ (t : Terms) (lawful : Lawful t.rows) (n : ℕ) (ds : List Deed) (w : Wo
         (λ i y ne p. absurd (ne (ap (λ (j : ObjectId). j.id) (sym (some_is x (handle_for x.client i y) p)))))) in
         apart_from r.world.lines r.world.engine.registry r.world.engine.outstanding child_on.kept.roll child_on.kept.sender q.kept
 
-  pub making_good : (x : MakingTicket) (d : ℕ) → out_here ≡ out.Making x.origin x.child x.bound
-      → After (Some (making x.origin x.child x.bound)) n ds ps (record { answer = settled_making (Ok (making_act x.origin x.child d w).value); run = (making_act x.origin x.child d w).run })
+  pub making_good : (x : MakingTicket) (d : ℕ) → out_here ≡ out.Making x.request
+      → After (Some (making x.request.origin x.request.child x.request.bound)) n ds ps (record { answer = settled_making (Ok (making_act x.request.origin x.request.child d w).value); run = (making_act x.request.origin x.request.child d w).run })
   making_good x d e =
-      let by : x.origin.sender.id ≢ 1 = subst Sender e k.sender in
-      let r = (settle_sender x.origin (from w)).run in
+      let by : x.request.origin.sender.id ≢ 1 = subst Sender e k.sender in
+      let r = (settle_sender x.request.origin (from w)).run in
       record {
-        kept = settled_kept (settle_child x.child d r).run
-            (child_good x.child d r (settle_sender_good x.origin by) (ap (λ (o : Outstanding). child_of (ticket_of o)) e) (living r.world x.child) refl);
+        kept = settled_kept (settle_child x.request.child d r).run
+            (child_good x.request.child d r (settle_sender_good x.request.origin by) (ap (λ (o : Outstanding). child_of (ticket_of o)) e) (living r.world x.request.child) refl);
         paired = comes_back _ (subst (λ (o : Outstanding). Paired ps (ticket_of o)) e pd);
       }

@@ -88,7 +88,7 @@ named_not c k e = cond-false (eqb k.serial c.serial) (Some k) None (ne_eqb k.ser
 -- another content of a place whose client is c
 module _ (w : World) (c : ClientId) (k : Client) (there : client_at w c ≡ Some k) where
   abbrev places : List (Option Client)
-  places = w.engine.store.clients
+  places = w.engine.store.clients.places
 
   held : at places c.place ≡ Some k
   held = (named_is c (at places c.place) k there).0
@@ -123,8 +123,8 @@ module _ (w : World) (c : ClientId) (k : Client) (there : client_at w c ≡ Some
   pub gone_other : (d : ClientId) → d ≢ c → client_at (with_place c.place None w) d ≡ client_at w d
   gone_other = other_place None (λ d sn. refl)
 
-  place_counted : (v : Option Client) → Counted places w.engine.store.len → Counted (set places c.place v) w.engine.store.len
-  place_counted v = put_counted places w.engine.store.len c.place v (ap is_some held)
+  place_counted : (v : Option Client) → Counted places w.engine.store.clients.len → Counted (set places c.place v) w.engine.store.clients.len
+  place_counted v = put_counted places w.engine.store.clients.len c.place v (ap is_some held)
 
 -- The roll and the ticket have nothing to do with a display.
 
@@ -136,13 +136,13 @@ Roll (Some x ∷ xs) = (x.id ≢ 1) × Roll xs
 abbrev pub Sender : Outstanding → Type 0
 Sender Nothing = Unit {0}
 Sender (Plain o) = o.sender.id ≢ 1
-Sender (Making o child bound) = o.sender.id ≢ 1
+Sender (Making m) = m.origin.sender.id ≢ 1
 
 pub record Kept (v : Option ObjectId) (n : ℕ) (ds : List Deed) (w : World) : Type 0 where
   pub few : w.engine.store.last_serial ≤ n
   pub clients_old : (c : ClientId) (k : Client) → client_at w c ≡ Some k → c.serial ≤ w.engine.store.last_serial
   pub untouched : (c : ClientId) → w.engine.store.last_serial < c.serial → acts_of c ds ≡ []
-  pub counted : Counted w.engine.store.clients w.engine.store.len
+  pub counted : Counted w.engine.store.clients.places w.engine.store.clients.len
   pub books : (c : ClientId) → Books c n (acts_of c ds) (client_at w c)
   pub turns : (c : ClientId) → Turns (acts_of c ds) (client_at w c)
   pub waits : (c : ClientId) (k : Client) → client_at w c ≡ Some k → Waits v c k
@@ -180,7 +180,7 @@ later_kept le k = record {
 -- One client, which is there, is concerned.
 module _ {v : Option ObjectId} {n : ℕ} {ds : List Deed} {w : World} (k : Kept v n ds w) (c : ClientId) (a : Client) (there : client_at w c ≡ Some a) where
   touches : (m : ℕ) → n ≤ m → (u : Option ObjectId) → ((d : ClientId) (q : Client) → d ≢ c → Waits v d q → Waits u d q)
-      → (b : Option Client) (z : World) → z.engine.store.last_serial ≡ w.engine.store.last_serial → Counted z.engine.store.clients z.engine.store.len
+      → (b : Option Client) (z : World) → z.engine.store.last_serial ≡ w.engine.store.last_serial → Counted z.engine.store.clients.places z.engine.store.clients.len
       → client_at z c ≡ b → ((d : ClientId) → d ≢ c → client_at z d ≡ client_at w d) → Roll z.engine.registry.roll → Sender z.engine.outstanding
       → (as' : List Act) → Books c m (as' ++ acts_of c ds) b → Turns (as' ++ acts_of c ds) b → ((q : Client) → b ≡ Some q → Waits u c q)
       → Kept u m (tagged c as' ++ ds) z
@@ -292,9 +292,9 @@ module _ (c : ClientId) (n s d : ℕ) where
       (λ q. absurd (not_vacant (find_in new.map id) o f (newcomer_found id q))) (cases_eq id 1)
 
 module _ {v : Option ObjectId} {n : ℕ} {ds : List Deed} {w : World} (k : Kept v n ds w) (h : n < 4294967295) (d p : ℕ)
-    (vacant : first_vacant w.engine.store.clients w.engine.store.len ≡ Some p) where
+    (vacant : first_vacant w.engine.store.clients.places w.engine.store.clients.len ≡ Some p) where
   abbrev store_places : List (Option Client)
-  store_places = w.engine.store.clients
+  store_places = w.engine.store.clients.places
 
   abbrev c : ClientId
   c = new_client_id p w
@@ -306,10 +306,10 @@ module _ {v : Option ObjectId} {n : ℕ} {ds : List Deed} {w : World} (k : Kept 
   serial_is = let s : w.engine.store.last_serial + 1 < 2 ^ 32 = omega (arith, k.few) in mod-eq_of_lt s
 
   inside : p < length store_places
-  inside = vacant_within store_places w.engine.store.len p vacant
+  inside = vacant_within store_places w.engine.store.clients.len p vacant
 
   was_vacant : at store_places p ≡ None
-  was_vacant = new_vacant store_places w.engine.store.len p k.counted vacant
+  was_vacant = new_vacant store_places w.engine.store.clients.len p k.counted vacant
 
   at_c : client_at (admit_world d p w) c ≡ Some (newcomer serial d)
   at_c = ap (named c) (at_set_same store_places p (Some (newcomer serial d)) inside) ∙ named_same c (newcomer serial d) refl
@@ -337,7 +337,7 @@ module _ {v : Option ObjectId} {n : ℕ} {ds : List Deed} {w : World} (k : Kept 
         (λ s. omega (arith, ap (λ (y : ClientId). y.serial) s))
         (λ ne. omega (arith, k.clients_old x q (sym (at_d x ne) ∙ e), serial_is)) (cases_client x c);
     untouched = λ x lt. acts_other c x acts ds (λ e. omega (arith, ap (λ (y : ClientId). y.serial) e, lt)) ∙ k.untouched x (omega (arith, serial_is, lt));
-    counted = set_counted store_places w.engine.store.len p (newcomer serial d) k.counted;
+    counted = set_counted store_places w.engine.store.clients.len p (newcomer serial d) k.counted;
     books = λ x. ⊎_elim
         (λ e. subst (λ (y : ClientId). Books y (suc n) (acts_of y (tagged c acts ++ ds)) (client_at (admit_world d p w) y)) (sym e)
         (subst (λ (o : Option Client). Books c (suc n) (acts_of c (tagged c acts ++ ds)) o) (sym at_c)

@@ -69,25 +69,25 @@ module _ {T : Type 0} where
 
 module _ {D : Type 0} where
   abbrev pub living : ObjectMap D → ℕ
-  living m = live m.client_objects + live m.server_objects
+  living m = live m.client_objects.places + live m.server_objects.places
 
   pub living_inserted : (m : ObjectMap D) (id : ℕ) (o : Object D) → insert_answer m id ≡ Ok tt → living (inserted m id o) ≡ 1 + living m
   living_inserted m id o e = grind (arith, nat_tests, live_named)
 
   -- an id that names an object lies in one of the halves, and its place is changed there
   data Place (m : ObjectMap D) (id : ℕ) (o : Object D) : Type 0 where
-    client : at m.client_objects (id - 1) ≡ Some o → ((p : Option (Object D)) → put_at m id p ≡ with_client m (id - 1) p m.client_len) → Place m id o
-    server : at m.server_objects (id - limit) ≡ Some o → ((p : Option (Object D)) → put_at m id p ≡ with_server m (id - limit) p m.server_len) → Place m id o
+    client : at m.client_objects.places (id - 1) ≡ Some o → ((p : Option (Object D)) → put_at m id p ≡ with_client m (record { places = set m.client_objects.places (id - 1) p; len = m.client_objects.len })) → Place m id o
+    server : at m.server_objects.places (id - limit) ≡ Some o → ((p : Option (Object D)) → put_at m id p ≡ with_server m (record { places = set m.server_objects.places (id - limit) p; len = m.server_objects.len })) → Place m id o
 
   place_low : (m : ObjectMap D) (id : ℕ) (o : Object D) → eqb id 0 ≡ false → ltb id limit ≡ true → find_in m id ≡ Some o → Place m id o
   place_low m id o z l e =
-      let there : at m.client_objects (id - 1) ≡ Some o = sym (cond-false (eqb id 0) _ _ z ∙ cond-true (ltb id limit) _ _ l) ∙ e in
-      client there (λ p. cond-false (eqb id 0) _ _ z ∙ (cond-true (ltb id limit) _ _ l ∙ cond-true (is_some (at m.client_objects (id - 1))) _ _ (ap is_some there)))
+      let there : at m.client_objects.places (id - 1) ≡ Some o = sym (cond-false (eqb id 0) _ _ z ∙ cond-true (ltb id limit) _ _ l) ∙ e in
+      client there (λ p. cond-false (eqb id 0) _ _ z ∙ (cond-true (ltb id limit) _ _ l ∙ ap (with_client m) (cond-true (is_some (at m.client_objects.places (id - 1))) _ _ (ap is_some there))))
 
   place_high : (m : ObjectMap D) (id : ℕ) (o : Object D) → eqb id 0 ≡ false → ltb id limit ≡ false → find_in m id ≡ Some o → Place m id o
   place_high m id o z l e =
-      let there : at m.server_objects (id - limit) ≡ Some o = sym (cond-false (eqb id 0) _ _ z ∙ cond-false (ltb id limit) _ _ l) ∙ e in
-      server there (λ p. cond-false (eqb id 0) _ _ z ∙ (cond-false (ltb id limit) _ _ l ∙ cond-true (is_some (at m.server_objects (id - limit))) _ _ (ap is_some there)))
+      let there : at m.server_objects.places (id - limit) ≡ Some o = sym (cond-false (eqb id 0) _ _ z ∙ cond-false (ltb id limit) _ _ l) ∙ e in
+      server there (λ p. cond-false (eqb id 0) _ _ z ∙ (cond-false (ltb id limit) _ _ l ∙ ap (with_server m) (cond-true (is_some (at m.server_objects.places (id - limit))) _ _ (ap is_some there))))
 
   place_of : (m : ObjectMap D) (id : ℕ) (o : Object D) → find_in m id ≡ Some o → Place m id o
   place_of m id o e =
@@ -98,10 +98,10 @@ module _ {D : Type 0} where
 
   removed_at : (m : ObjectMap D) (id : ℕ) (o : Object D) → Place m id o → living m ≡ 1 + living (removed m id)
   removed_at m id o (client there put) =
-      let f = live_emptied m.client_objects (id - 1) o there in
+      let f = live_emptied m.client_objects.places (id - 1) o there in
       let g = ap living (put None) in omega (arith, f, g)
   removed_at m id o (server there put) =
-      let f = live_emptied m.server_objects (id - limit) o there in
+      let f = live_emptied m.server_objects.places (id - limit) o there in
       let g = ap living (put None) in omega (arith, f, g)
 
   pub living_removed : (m : ObjectMap D) (id : ℕ) (o : Object D) → find_in m id ≡ Some o → living m ≡ 1 + living (removed m id)
@@ -109,76 +109,76 @@ module _ {D : Type 0} where
 
   put_at_lem : (m : ObjectMap D) (id : ℕ) (o p : Object D) → Place m id o → living (put_at m id (Some p)) ≡ living m
   put_at_lem m id o p (client there put) =
-      let f = live_replaced m.client_objects (id - 1) o p there in
+      let f = live_replaced m.client_objects.places (id - 1) o p there in
       let g = ap living (put (Some p)) in omega (arith, f, g)
   put_at_lem m id o p (server there put) =
-      let f = live_replaced m.server_objects (id - limit) o p there in
+      let f = live_replaced m.server_objects.places (id - limit) o p there in
       let g = ap living (put (Some p)) in omega (arith, f, g)
 
   pub living_put : (m : ObjectMap D) (id : ℕ) (o p : Object D) → find_in m id ≡ Some o → living (put_at m id (Some p)) ≡ living m
   living_put m id o p e = put_at_lem m id o p (place_of m id o e)
 
-  new_at : (m : ObjectMap D) (o : Object D) (id : ℕ) → Used m → (r : Option ℕ) → first_vacant m.server_objects m.server_len ≡ r → option_map (λ i. i + limit) r ≡ Some id → living (new_server r m o) ≡ 1 + living m
+  new_at : (m : ObjectMap D) (o : Object D) (id : ℕ) → Used m → (r : Option ℕ) → first_vacant m.server_objects.places m.server_objects.len ≡ r → option_map (λ i. i + limit) r ≡ Some id → living (new_server r m o) ≡ 1 + living m
   new_at m o id u None e q = let z : ◌≡◌ {A = ℕ} 0 1 = cc in absurd (omega arith)
   new_at m o id u (Some i) e q =
-      omega (arith, live_filled m.server_objects i o (vacant_within m.server_objects m.server_len i e) (new_vacant m.server_objects m.server_len i u.1 e))
+      omega (arith, live_filled m.server_objects.places i o (vacant_within m.server_objects.places m.server_objects.len i e) (new_vacant m.server_objects.places m.server_objects.len i u.1 e))
 
   pub living_new : (m : ObjectMap D) (o : Object D) (id : ℕ) → Used m → new_answer m ≡ Some id → living (new_after m o) ≡ 1 + living m
   living_new m o id u e = new_at m o id u _ refl e
 
   -- how many are above an id
   abbrev above : ObjectMap D → ℕ → ℕ
-  above m id = cond (ltb id limit) (live (drop id m.client_objects) + live m.server_objects) (live (drop (id - limit + 1) m.server_objects))
+  above m id = cond (ltb id limit) (live (drop id m.client_objects.places) + live m.server_objects.places) (live (drop (id - limit + 1) m.server_objects.places))
 
-  above_low : (m : ObjectMap D) (id : ℕ) → id < limit → above m id ≡ live (drop id m.client_objects) + live m.server_objects
+  above_low : (m : ObjectMap D) (id : ℕ) → id < limit → above m id ≡ live (drop id m.client_objects.places) + live m.server_objects.places
   above_low m id h = cond-true (ltb id limit) _ _ (lt-ltb id limit h)
 
-  above_high : (m : ObjectMap D) (id : ℕ) → limit ≤ id → above m id ≡ live (drop (id - limit + 1) m.server_objects)
+  above_high : (m : ObjectMap D) (id : ℕ) → limit ≤ id → above m id ≡ live (drop (id - limit + 1) m.server_objects.places)
   above_high m id h = cond-false (ltb id limit) _ _ (le-ltb id limit h)
 
-  server_high : (m : ObjectMap D) (i : ℕ) → above m (i + limit) ≡ live (drop (i + 1) m.server_objects)
-  server_high m i = above_high m (i + limit) (omega arith) ∙ ap (λ n. live (drop n m.server_objects)) (let z : i + limit - limit + 1 ≡ i + 1 = omega arith in z)
+  server_high : (m : ObjectMap D) (i : ℕ) → above m (i + limit) ≡ live (drop (i + 1) m.server_objects.places)
+  server_high m i = above_high m (i + limit) (omega arith) ∙ ap (λ n. live (drop n m.server_objects.places)) (let z : i + limit - limit + 1 ≡ i + 1 = omega arith in z)
 
-  next_low : (m : ObjectMap D) (id : ℕ) → id < limit → next_after m id ≡ or_else (option_map (λ k. k + 1) (occupied_from m.client_objects id)) (option_map (λ k. k + limit) (occupied_from m.server_objects 0))
+  next_low : (m : ObjectMap D) (id : ℕ) → id < limit → next_after m id ≡ or_else (option_map (λ k. k + 1) (occupied_from m.client_objects.places id)) (option_map (λ k. k + limit) (occupied_from m.server_objects.places 0))
   next_low m id h = cond-true (ltb id limit) _ _ (lt-ltb id limit h)
 
-  next_high : (m : ObjectMap D) (id : ℕ) → limit ≤ id → next_after m id ≡ option_map (λ k. k + limit) (occupied_from m.server_objects (id - limit + 1))
+  next_high : (m : ObjectMap D) (id : ℕ) → limit ≤ id → next_after m id ≡ option_map (λ k. k + limit) (occupied_from m.server_objects.places (id - limit + 1))
   next_high m id h = cond-false (ltb id limit) _ _ (le-ltb id limit h)
 
   -- the client's half has at most 64 places, so an id that is found there is below the limit
-  some_low : (m : ObjectMap D) → Sized m → (id : ℕ) → id < limit → (k : ℕ) (a b : Option ℕ) → occupied_from m.client_objects id ≡ a → occupied_from m.server_objects 0 ≡ b
+  some_low : (m : ObjectMap D) → Sized m → (id : ℕ) → id < limit → (k : ℕ) (a b : Option ℕ) → occupied_from m.client_objects.places id ≡ a → occupied_from m.server_objects.places 0 ≡ b
       → or_else (option_map (λ x. x + 1) a) (option_map (λ x. x + limit) b) ≡ Some k → above m id ≡ 1 + above m k
   some_low m z id h k (Some i) b ea eb e =
       let q : i + 1 ≡ k = cc in
-      let w = occupied_within m.client_objects i (from_occupied m.client_objects id i ea) in
-      let f = from_some m.client_objects id i ea in
+      let w = occupied_within m.client_objects.places i (from_occupied m.client_objects.places id i ea) in
+      let f = from_some m.client_objects.places id i ea in
       let g = above_low m (i + 1) (omega (arith, w, z.0)) in
       above_low m id h ∙ omega (arith, f, g, ap (above m) q)
   some_low m z id h k None (Some i) ea eb e =
       let q : i + limit ≡ k = cc in
-      let f = from_none m.client_objects id ea in
-      let g = from_some m.server_objects 0 i eb in
+      let f = from_none m.client_objects.places id ea in
+      let g = from_some m.server_objects.places 0 i eb in
       let u = server_high m i in
       above_low m id h ∙ omega (arith, f, g, u, ap (above m) q)
   some_low m z id h k None None ea eb e = let y : ◌≡◌ {A = ℕ} 0 1 = cc in absurd (omega arith)
 
-  some_high : (m : ObjectMap D) (id : ℕ) → limit ≤ id → (k : ℕ) (a : Option ℕ) → occupied_from m.server_objects (id - limit + 1) ≡ a → option_map (λ x. x + limit) a ≡ Some k → above m id ≡ 1 + above m k
+  some_high : (m : ObjectMap D) (id : ℕ) → limit ≤ id → (k : ℕ) (a : Option ℕ) → occupied_from m.server_objects.places (id - limit + 1) ≡ a → option_map (λ x. x + limit) a ≡ Some k → above m id ≡ 1 + above m k
   some_high m id h k (Some i) ea e =
       let q : i + limit ≡ k = cc in
-      let g = from_some m.server_objects (id - limit + 1) i ea in
+      let g = from_some m.server_objects.places (id - limit + 1) i ea in
       let u = server_high m i in
       above_high m id h ∙ omega (arith, g, u, ap (above m) q)
   some_high m id h k None ea e = let y : ◌≡◌ {A = ℕ} 0 1 = cc in absurd (omega arith)
 
-  none_low : (m : ObjectMap D) (id : ℕ) → id < limit → (a b : Option ℕ) → occupied_from m.client_objects id ≡ a → occupied_from m.server_objects 0 ≡ b
+  none_low : (m : ObjectMap D) (id : ℕ) → id < limit → (a b : Option ℕ) → occupied_from m.client_objects.places id ≡ a → occupied_from m.server_objects.places 0 ≡ b
       → or_else (option_map (λ x. x + 1) a) (option_map (λ x. x + limit) b) ≡ None → above m id ≡ 0
   none_low m id h (Some i) b ea eb e = let y : ◌≡◌ {A = ℕ} 0 1 = cc in absurd (omega arith)
   none_low m id h None (Some i) ea eb e = let y : ◌≡◌ {A = ℕ} 0 1 = cc in absurd (omega arith)
-  none_low m id h None None ea eb e = above_low m id h ∙ omega (arith, from_none m.client_objects id ea, from_none m.server_objects 0 eb)
+  none_low m id h None None ea eb e = above_low m id h ∙ omega (arith, from_none m.client_objects.places id ea, from_none m.server_objects.places 0 eb)
 
-  none_high : (m : ObjectMap D) (id : ℕ) → limit ≤ id → (a : Option ℕ) → occupied_from m.server_objects (id - limit + 1) ≡ a → option_map (λ x. x + limit) a ≡ None → above m id ≡ 0
+  none_high : (m : ObjectMap D) (id : ℕ) → limit ≤ id → (a : Option ℕ) → occupied_from m.server_objects.places (id - limit + 1) ≡ a → option_map (λ x. x + limit) a ≡ None → above m id ≡ 0
   none_high m id h (Some i) ea e = let y : ◌≡◌ {A = ℕ} 0 1 = cc in absurd (omega arith)
-  none_high m id h None ea e = above_high m id h ∙ from_none m.server_objects (id - limit + 1) ea
+  none_high m id h None ea e = above_high m id h ∙ from_none m.server_objects.places (id - limit + 1) ea
 
   next_some : (m : ObjectMap D) → Sized m → (id k : ℕ) → next_after m id ≡ Some k → above m id ≡ 1 + above m k
   next_some m z id k e =

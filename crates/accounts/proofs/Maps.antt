@@ -1,7 +1,7 @@
 -- What the map's own operations are, as an entry, an end or a change of data.
 use Rattle.std.proofs.Common.{◌≡◌, ℕ, Some, None, Ok, Result, refl, ap, ◌∙◌}
 use Rattle.map.specs.declared.DataMark.{DataMark}
-use Rattle.map.specs.declared.InvalidId.{InvalidId}
+use Rattle.map.specs.declared.fault.InvalidId.{InvalidId}
 use Rattle.map.specs.declared.LocalId.{LocalId}
 use Rattle.map.specs.declared.Object.{Object}
 use Rattle.map.specs.declared.ObjectData.{ObjectData}

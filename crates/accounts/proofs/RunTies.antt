@@ -9,8 +9,7 @@ use Rattle.map.specs.declared.ObjectData.{ObjectData}
 use Rattle.protocol.specs.Lawful.{Lawful}
 use Rattle.protocol.specs.declared.refusal.Refusal.{Refusal}
 use Rattle.wire.specs.Line.{Line, head_of, write_answer}
-use Rattle.wire.specs.declared.answers.Writing.{Writing}
-use Rattle.wire.specs.declared.answers.Writing.TheVariants.{Taken, Refused, BadSize}
+use Rattle.wire.specs.declared.answers.WriteError.{WriteError}
 use Rattle.backend.specs.declared.ids.ClientId.{ClientId}
 use Rattle.backend.specs.declared.ids.ObjectId.{ObjectId}
 use Rattle.backend.specs.declared.ids.GlobalId.{GlobalId}
@@ -21,7 +20,8 @@ use Rattle.backend.specs.declared.client.End.{End}
 use Rattle.backend.specs.declared.registry.Global.{Global}
 use Rattle.backend.specs.declared.ticket.Origin.{Origin}
 use Rattle.backend.specs.declared.answers.KillAnswer.{KillAnswer}
-use Rattle.backend.specs.Tickets.{plain_is, making_is}
+use Rattle.backend.specs.declared.ticket.Outstanding.TheVariants as out
+use Rattle.backend.specs.Tickets.{same_ticket}
 use Rattle.backend.specs.World.{Terms, World, is_live, client_at, with_state}
 use Rattle.backend.specs.Acts.{Act, entered, ended, took, refused, received, flushed as act_flushed, opened, Deed, Seat, Run, from, seat, tagged, resumed, kill, flush, offer, end, remove}
 use Rattle.backend.specs.Registries.{announce, retract, visit, along_roll}
@@ -185,10 +185,9 @@ module _ (t : Terms) (lawful : Lawful t.rows) (w : World) where
       let s = settle_sender o (from w) in
       relined (settle_child x d s.run).run _ (λ p. refl) (child_runs [] (one s.value) x d (living s.run.world x) s.run (settle_sender_runs o))
 
-  send_ends_lem : (v : Writing) (e : Option End) → send_ends (send_answer v e) ≡ one e
-  send_ends_lem Taken e = refl
-  send_ends_lem Refused e = refl
-  send_ends_lem BadSize e = refl
+  send_ends_lem : (v : Result (Unit {0}) WriteError) (e : Option End) → send_ends (send_answer v e) ≡ one e
+  send_ends_lem (Ok u) e = refl
+  send_ends_lem (Err r) e = refl
 
   sent_ties : (x : ObjectId) (opcode : ℕ) (as' : List SendArgument) (s : Sendable) (k : Client)
       → Ties (w.lines x.client.place) [] (one (send_end x s)) (send_seat x opcode as' s (seat x.client k (from w)))
@@ -243,10 +242,10 @@ module _ (t : Terms) (lawful : Lawful t.rows) (w : World) where
   all_say (admit d) = checked_says w admitted (λ e. (refl, refl)) (admit_check w) (admit_act d w) (admit_runs d)
   all_say (step c b) = checked_says w stepped (λ e. (refl, refl)) (step_check c b w) (step_act t c b w) (step_runs c b)
   all_say (settle_plain x) =
-      cond_both (plain_is w.engine.outstanding x.origin) _ _ (Says w)
-      (λ _. says _ (relined (settle_sender x.origin (from w)).run _ (λ p. refl) (settle_sender_runs x.origin))) (λ _. says _ still)
+      cond_both (same_ticket w.engine.outstanding (out.Plain x.request)) _ _ (Says w)
+      (λ _. says _ (relined (settle_sender x.request (from w)).run _ (λ p. refl) (settle_sender_runs x.request))) (λ _. says _ still)
   all_say (settle_making x d) =
-      cond_both (making_is w.engine.outstanding x.origin x.child x.bound) _ _ (Says w) (λ _. says _ (making_runs x.origin x.child d)) (λ _. says _ still)
+      cond_both (same_ticket w.engine.outstanding (out.Making x.request)) _ _ (Says w) (λ _. says _ (making_runs x.request.origin x.request.child d)) (λ _. says _ still)
   all_say (create c row version d) = checked_says w created (λ e. (refl, refl)) (create_check t c row w) (create_act c row version d w)
       (λ x. seat_runs _ [] c (create_seat c x.id row version (Number d) (seat c x.client (from w))) (record { entries_are = refl; ends_are = refl; line_is = refl }))
   all_say (destroy x) = checked_says w destroyed (λ e. (refl, refl)) (destroy_check x w) (destroy_act x w) (λ o. end_runs x (mark_of o) o.client)
@@ -264,7 +263,7 @@ module _ (t : Terms) (lawful : Lawful t.rows) (w : World) where
   all_say (disable i) = checked_says w disabled (λ e. (refl, refl)) (the_global w i) (disable_act i w) (λ g. disable_runs i g)
   all_say (remove_call i) = checked_says w removed (λ e. (refl, refl)) (the_global w i) (remove_act i w) (λ g. relined (disable_run i w g) _ (λ p. refl) (disable_runs i g))
   all_say (flush_call c) = checked_says w flushed (λ e. (refl, refl)) (the_client w c) (flush_act c w) (λ k. seat_runs [] [] c (flush (seat c k (from w))) (flush_ties (seat c k (from w)) (sat c k)))
-  all_say tidy = says _ (tidy_runs (lowest_killed 0 w.engine.store.clients))
+  all_say tidy = says _ (tidy_runs (lowest_killed 0 w.engine.store.clients.places))
 
 pub all_tied : AllTied
 all_tied t lawful c w = let s = all_say t lawful w c in record { entries_are_shown = s.entries_are_shown; ends_are_shown = s.ends_are_shown; lines_shown = s.lines_shown }

@@ -8,9 +8,9 @@ use Rattle.backend.specs.declared.ids.GlobalId.{GlobalId}
 use Rattle.backend.specs.declared.ticket.Bound.{Bound}
 use Rattle.backend.specs.declared.ticket.Origin.{Origin}
 use Rattle.backend.specs.declared.ticket.Outstanding.{Outstanding}
-use Rattle.backend.specs.declared.ticket.Outstanding.TheVariants.{Nothing, Plain, Making}
+use Rattle.backend.specs.declared.ticket.Outstanding.TheVariants.{Nothing, Plain, Making as MakingOut}
 use Rattle.backend.specs.Ids.{same_client, same_object, same_global}
-use Rattle.backend.specs.Tickets.{same_mark, same_bool, same_origin, same_bound, plain_is, making_is}
+use Rattle.backend.specs.Tickets.{same_mark, same_bool, same_origin, same_bound, same_ticket}
 use Rattle.accounts.proofs.Books.{same_handle}
 use Rattle.accounts.proofs.Kept.{same_client_is}
 
@@ -68,18 +68,19 @@ same_bound_is (Some a) (Some b) t =
     let h = eqb-true a.handler b.handler p.1 in
     λ i. Some (record { global = g i; handler = h i })
 
-pub plain_is_lem : (out : Outstanding) (o : Origin) → plain_is out o ≡ true → out ≡ Plain o
-plain_is_lem Nothing o t = absurd (false≢true t)
-plain_is_lem (Plain a) o t = ap (λ (x : Origin). Plain x) (same_origin_is a o t)
-plain_is_lem (Making a x b) o t = absurd (false≢true t)
-
-pub making_is_lem : (out : Outstanding) (o : Origin) (x : ObjectId) (b : Option Bound) → making_is out o x b ≡ true → out ≡ Making o x b
-making_is_lem Nothing o x b t = absurd (false≢true t)
-making_is_lem (Plain a) o x b t = absurd (false≢true t)
-making_is_lem (Making a y d) o x b t =
-    let p = and_parts (same_origin a o) _ t in
-    let q = and_parts (same_object y x) (same_bound d b) p.1 in
-    let e = same_origin_is a o p.0 in
-    let f = same_object_is y x q.0 in
-    let g = same_bound_is d b q.1 in
-    λ i. Making (e i) (f i) (g i)
+pub same_ticket_is : (a b : Outstanding) → same_ticket a b ≡ true → a ≡ b
+same_ticket_is Nothing Nothing t = refl
+same_ticket_is Nothing (Plain b) t = absurd (false≢true t)
+same_ticket_is Nothing (MakingOut b) t = absurd (false≢true t)
+same_ticket_is (Plain a) Nothing t = absurd (false≢true t)
+same_ticket_is (Plain a) (Plain b) t = ap (λ (x : Origin). Plain x) (same_origin_is a b t)
+same_ticket_is (Plain a) (MakingOut b) t = absurd (false≢true t)
+same_ticket_is (MakingOut a) Nothing t = absurd (false≢true t)
+same_ticket_is (MakingOut a) (Plain b) t = absurd (false≢true t)
+same_ticket_is (MakingOut a) (MakingOut b) t =
+    let p = and_parts (same_origin a.origin b.origin) _ t in
+    let q = and_parts (same_object a.child b.child) (same_bound a.bound b.bound) p.1 in
+    let e = same_origin_is a.origin b.origin p.0 in
+    let f = same_object_is a.child b.child q.0 in
+    let g = same_bound_is a.bound b.bound q.1 in
+    λ i. MakingOut (record { origin = e i; child = f i; bound = g i })

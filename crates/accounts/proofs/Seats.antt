@@ -1,5 +1,5 @@
 -- A client in its place: each part of a call keeps its books, its numbers' turns, and which of its objects wait for data.
-use Rattle.std.proofs.Common.{◌≡◌, ℕ, suc, ◌<◌, ◌≤◌, true, false, ◌&&◌, eqb, ltb, ◌≢◌, ◌⊎◌, List, ◌∷◌, ◌++◌, is_some, Some, None, Ok, Option, sym, refl, ap, ◌∙◌, subst, inl, inr, ⊎_elim, arith}
+use Rattle.std.proofs.Common.{◌≡◌, ℕ, suc, ◌<◌, ◌≤◌, true, false, ◌&&◌, eqb, ltb, ◌≢◌, ◌⊎◌, List, ◌∷◌, ◌++◌, is_some, Some, None, Ok, Err, Result, Option, sym, refl, ap, ◌∙◌, subst, inl, inr, ⊎_elim, arith}
 use Rattle.std.proofs.lemmas.Bool.{cases_eq, both_ways, cond_both, cond-false, and_left, and_right, ltb-false}
 use Rattle.map.specs.declared.DataMark.{DataMark}
 use Rattle.map.specs.declared.DataMark.TheVariants.{Awaited}
@@ -9,8 +9,7 @@ use Rattle.map.specs.declared.ObjectMap.{ObjectMap}
 use Rattle.map.specs.Map.{limit, find_in, insert_answer, inserted, removed}
 use Rattle.message.specs.Events.{EventModel}
 use Rattle.wire.specs.Line.{Line, write_answer, written}
-use Rattle.wire.specs.declared.answers.Writing.{Writing}
-use Rattle.wire.specs.declared.answers.Writing.TheVariants.{Taken, Refused, BadSize}
+use Rattle.wire.specs.declared.answers.WriteError.{WriteError}
 use Rattle.backend.specs.declared.ids.ClientId.{ClientId}
 use Rattle.backend.specs.declared.ids.ObjectId.{ObjectId}
 use Rattle.backend.specs.declared.client.Client.{Client}
@@ -90,10 +89,9 @@ module _ {v : Option ObjectId} {c : ClientId} {n : ℕ} {before : List Act} wher
       let k = killed_good ConnectionClosed s g in
       record { books = same_books (s.acts ++ before) (refused e ∷ s.acts ++ before) refl refl k.books; turns = λ u. absurd u; waits = k.waits; agrees = g.agrees }
 
-  offered : (w : Writing) (e : EventModel) (l : Line) → Quiet e → (s : Seat) → Good v c n before s → Good v c n before (record { client = lost w s.client; line = l; acts = heard w e ∷ s.acts })
-  offered Taken e l q s g = took_good e l q s g
-  offered Refused e l q s g = refused_good e l s g
-  offered BadSize e l q s g = refused_good e l s g
+  offered : (w : Result (Unit {0}) WriteError) (e : EventModel) (l : Line) → Quiet e → (s : Seat) → Good v c n before s → Good v c n before (record { client = lost w s.client; line = l; acts = heard w e ∷ s.acts })
+  offered (Ok u) e l q s g = took_good e l q s g
+  offered (Err r) e l q s g = refused_good e l s g
 
   pub offer_good : (e : EventModel) → Quiet e → (s : Seat) → Good v c n before s → Good v c n before (offer e s)
   offer_good e q s g = offered (write_answer e s.line) e (written e s.line) q s g
@@ -154,11 +152,10 @@ module _ {v : Option ObjectId} {c : ClientId} {n : ℕ} {before : List Act} wher
           agrees = g.agrees;
         }
 
-    end_offered : (w : Writing) (l : Line) (s : Seat) → Good v c n before s → Alive x (Some s.client) → (is_live s.client.state ≡ false) ⊎ (x.id ≢ 1)
+    end_offered : (w : Result (Unit {0}) WriteError) (l : Line) (s : Seat) → Good v c n before s → Alive x (Some s.client) → (is_live s.client.state ≡ false) ⊎ (x.id ≢ 1)
         → Good v c n before (remove x mark (record { client = lost w s.client; line = l; acts = heard w (delete_id x.id) ∷ s.acts }))
-    end_offered Taken l s g lives spared = taken_good l s g lives spared
-    end_offered Refused l s g lives spared = lost_good l s g lives
-    end_offered BadSize l s g lives spared = lost_good l s g lives
+    end_offered (Ok u) l s g lives spared = taken_good l s g lives spared
+    end_offered (Err r) l s g lives spared = lost_good l s g lives
 
     pub end_good : (s : Seat) → Good v c n before s → Alive x (Some s.client) → (is_live s.client.state ≡ false) ⊎ (x.id ≢ 1) → Good v c n before (end x mark s)
     end_good s g lives spared =
@@ -228,10 +225,9 @@ fail_free u code object row text s g =
     (struck_dead (ProtocolError (record { code = code; object = object; row = row })) (flush (tell (error_event object code text) s)).client.state) (fail_good code object row text s g)
 
 -- a write leaves the objects
-pub lost_map : (w : Writing) (k : Client) → (lost w k).map ≡ k.map
-lost_map Taken k = refl
-lost_map Refused k = refl
-lost_map BadSize k = refl
+pub lost_map : (w : Result (Unit {0}) WriteError) (k : Client) → (lost w k).map ≡ k.map
+lost_map (Ok u) k = refl
+lost_map (Err r) k = refl
 
 -- an event that is not opcode 1, or not of object 1, says of no number that it may be used again
 pub quiet_opcode : (e : EventModel) → eqb e.opcode 1 ≡ false → Quiet e

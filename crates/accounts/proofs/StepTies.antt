@@ -2,7 +2,7 @@
 use Rattle.std.proofs.Common.{◌≡◌, ℕ, ◌≤◌, eqb, ltb, List, [], length, Some, None, Ok, Err, Option, Result, refl, ap, ◌∙◌}
 use Rattle.std.proofs.lemmas.Bool.{cond_both}
 use Rattle.map.specs.declared.DataMark.TheVariants.{Own, Awaited}
-use Rattle.map.specs.declared.MapFault.{MapFault}
+use Rattle.map.specs.declared.fault.MapFault.{MapFault}
 use Rattle.map.specs.declared.Object.{Object}
 use Rattle.map.specs.declared.ObjectData.{ObjectData}
 use Rattle.map.specs.Map.{find_in, insert_answer}
@@ -89,7 +89,7 @@ module _ (p : Place) (l : Line) where
     enlisted_ties : (id : ℕ) (v : Option ℕ) → Shows l (enlisted p id v s b)
     enlisted_ties id None = failed_ties (at_argument 0 RollFull no_memory) None (draw s) b (draw_ties s g)
     enlisted_ties id (Some i) =
-        announce_all_ties p.terms (fresh p.client id 2 s.client) 1 p.registry.globals (enter p.client id 2 1 Own s) (enter_ties p.client id 2 1 Own s g)
+        announce_all_ties p.terms (fresh p.client id 2 s.client) 1 p.registry.globals.places (enter p.client id 2 1 Own s) (enter_ties p.client id 2 1 Own s g)
 
     registered_ties : (id : ℕ) (r : Result (Unit {0}) MapFault) → Shows l (registered p id r s b)
     registered_ties id (Err f) = failed_ties (entry_failing 0 f id) None (draw s) b (draw_ties s g)

@@ -4,7 +4,7 @@ use Rattle.std.proofs.lemmas.Bool.{cond_both, eqb-false}
 use Rattle.std.specs.List.{slice_get}
 use Rattle.places.specs.Places.{places_new}
 use Rattle.map.specs.declared.DataMark.TheVariants.{Own, Awaited}
-use Rattle.map.specs.declared.MapFault.{MapFault}
+use Rattle.map.specs.declared.fault.MapFault.{MapFault}
 use Rattle.map.specs.declared.Object.{Object}
 use Rattle.map.specs.declared.ObjectData.{ObjectData}
 use Rattle.map.specs.declared.ObjectMap.{ObjectMap}
@@ -141,7 +141,7 @@ module _ (p : Place) {n : ℕ} {before : List Act} where
     enlisted_good id e (Some i) =
         let x = fresh p.client id 2 s.client in
         record {
-          good = announce_all_good p.terms x 1 p.registry.globals (enter p.client id 2 1 Own s)
+          good = announce_all_good p.terms x 1 p.registry.globals.places (enter p.client id 2 1 Own s)
               (enter_good h s g l id 2 1 Own e None (λ y q. q) (λ q. let z : ◌≡◌ {A = ℕ} 0 1 = cc in absurd (omega arith)));
           roll = λ r. enrolled_roll (roll_end p.registry.roll) p.registry.roll x (not_display h s g l id (insert_entry s.client.map id (new_object 2 1 Own s.client) e).vacant) r;
           sender = tt;

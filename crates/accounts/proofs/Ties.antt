@@ -1,12 +1,12 @@
 -- What is done at a client's seat: which entries and ends it shows, and what it does to the line.
-use Rattle.std.proofs.Common.{◌≡◌, ℕ, ◌+◌, Bool, true, false, cond, eqb, ltb, List, [], ◌∷◌, Some, None, Option, refl, ap, ◌∙◌}
+use Rattle.std.proofs.Common.{◌≡◌, ℕ, ◌+◌, Bool, true, false, cond, eqb, ltb, List, [], ◌∷◌, Some, None, Option, Ok, Err, Result, refl, ap, ◌∙◌}
 use Rattle.std.proofs.lemmas.Bool.{cond_both}
 use Rattle.map.specs.declared.DataMark.{DataMark}
 use Rattle.map.specs.Map.{limit}
 use Rattle.message.specs.Events.{EventModel, sendable}
 use Rattle.wire.specs.Line.{Line, write_answer, written, with_event}
-use Rattle.wire.specs.declared.answers.Writing.{Writing}
-use Rattle.wire.specs.declared.answers.Writing.TheVariants.{Taken, Refused, BadSize}
+use Rattle.wire.specs.declared.answers.WriteError.{WriteError}
+use Rattle.wire.specs.declared.answers.WriteError.TheVariants.{Refused, BadSize}
 use Rattle.backend.specs.declared.ids.ClientId.{ClientId}
 use Rattle.backend.specs.declared.ids.ObjectId.{ObjectId}
 use Rattle.backend.specs.declared.client.DisconnectReason.{DisconnectReason}
@@ -34,20 +34,18 @@ pub record Ties (l : Line) (es : List ObjectId) (ns : List End) (s : Seat) : Typ
 written_is : (e : EventModel) (l : Line) → written e l ≡ done_to (heard (write_answer e l) e) l
 written_is e l = go (eqb l.allowance 0) (sendable e)
   where
-    go : (a b : Bool) → cond a l (cond b (with_event e l) l) ≡ done_to (heard (cond a Refused (cond b Taken BadSize)) e) l
+    go : (a b : Bool) → cond a l (cond b (with_event e l) l) ≡ done_to (heard (cond a (Err Refused) (cond b (Ok tt) (Err BadSize))) e) l
     go true b = refl
     go false true = refl
     go false false = refl
 
-heard_entries : (w : Writing) (e : EventModel) (as' : List Act) → entries_in (heard w e ∷ as') ≡ entries_in as'
-heard_entries Taken e as' = refl
-heard_entries Refused e as' = refl
-heard_entries BadSize e as' = refl
+heard_entries : (w : Result (Unit {0}) WriteError) (e : EventModel) (as' : List Act) → entries_in (heard w e ∷ as') ≡ entries_in as'
+heard_entries (Ok u) e as' = refl
+heard_entries (Err r) e as' = refl
 
-heard_ends : (w : Writing) (e : EventModel) (as' : List Act) → ends_in (heard w e ∷ as') ≡ ends_in as'
-heard_ends Taken e as' = refl
-heard_ends Refused e as' = refl
-heard_ends BadSize e as' = refl
+heard_ends : (w : Result (Unit {0}) WriteError) (e : EventModel) (as' : List Act) → ends_in (heard w e ∷ as') ≡ ends_in as'
+heard_ends (Ok u) e as' = refl
+heard_ends (Err r) e as' = refl
 
 module _ {l : Line} {es : List ObjectId} {ns : List End} where
   pub offer_ties : (e : EventModel) (s : Seat) → Ties l es ns s → Ties l es ns (offer e s)

@@ -7,7 +7,8 @@ use Rattle.protocol.specs.declared.refusal.Refusal.{Refusal}
 use Rattle.wire.specs.Line.{Line}
 use Rattle.backend.specs.declared.ids.ClientId.{ClientId}
 use Rattle.backend.specs.declared.client.Client.{Client}
-use Rattle.backend.specs.Tickets.{plain_is, making_is}
+use Rattle.backend.specs.declared.ticket.Outstanding.TheVariants as out
+use Rattle.backend.specs.Tickets.{same_ticket}
 use Rattle.backend.specs.World.{Terms, World, new_engine, named, client_at}
 use Rattle.backend.specs.Acts.{Deed}
 use Rattle.backend.specs.Requests.{Buffers}
@@ -20,7 +21,7 @@ use Rattle.accounts.specs.Accounts.{Paired, none_out, entry, nothing}
 use Rattle.accounts.proofs.Books.{Books, no_books, not_vacant}
 use Rattle.accounts.proofs.Turns.{Turns}
 use Rattle.accounts.proofs.Kept.{Kept, apart_from}
-use Rattle.accounts.proofs.Same.{plain_is_lem, making_is_lem}
+use Rattle.accounts.proofs.Same.{same_ticket_is}
 use Rattle.accounts.proofs.Calls.{
   After,
   calm,
@@ -55,11 +56,11 @@ module _ (t : Terms) (lawful : Lawful t.rows) (n : ℕ) (ds : List Deed) (w : Wo
   performs (admit d) = checked_good t lawful n ds w ps k pd h admitted (λ r. refl) (admit_check w) (admit_act d w) (admit_good t lawful n ds w ps k pd h d)
   performs (step c b) = stepping c b (step_check c b w) refl
   performs (settle_plain x) =
-      cond_both (plain_is w.engine.outstanding x.origin) _ _ (After (ticket_given (settle_plain x)) n ds ps)
-      (λ e. plain_good t lawful n ds w ps k pd h x (plain_is_lem w.engine.outstanding x.origin e)) (λ _. calm t lawful n ds w ps k pd h _ _ refl (still t lawful n ds w ps k pd h))
+      cond_both (same_ticket w.engine.outstanding (out.Plain x.request)) _ _ (After (ticket_given (settle_plain x)) n ds ps)
+      (λ e. plain_good t lawful n ds w ps k pd h x (same_ticket_is w.engine.outstanding (out.Plain x.request) e)) (λ _. calm t lawful n ds w ps k pd h _ _ refl (still t lawful n ds w ps k pd h))
   performs (settle_making x d) =
-      cond_both (making_is w.engine.outstanding x.origin x.child x.bound) _ _ (After (ticket_given (settle_making x d)) n ds ps)
-      (λ e. making_good t lawful n ds w ps k pd h x d (making_is_lem w.engine.outstanding x.origin x.child x.bound e)) (λ _. calm t lawful n ds w ps k pd h _ _ refl (still t lawful n ds w ps k pd h))
+      cond_both (same_ticket w.engine.outstanding (out.Making x.request)) _ _ (After (ticket_given (settle_making x d)) n ds ps)
+      (λ e. making_good t lawful n ds w ps k pd h x d (same_ticket_is w.engine.outstanding (out.Making x.request) e)) (λ _. calm t lawful n ds w ps k pd h _ _ refl (still t lawful n ds w ps k pd h))
   performs (create c row version d) =
       checked_good t lawful n ds w ps k pd h created (λ r. refl) (create_check t c row w) (create_act c row version d w) (create_good t lawful n ds w ps k pd h c row version d)
   performs (destroy x) = checked_good t lawful n ds w ps k pd h destroyed (λ r. refl) (destroy_check x w) (destroy_act x w) (destroy_good t lawful n ds w ps k pd h x)

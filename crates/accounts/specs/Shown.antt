@@ -72,7 +72,7 @@ step_entries Closed = []
 step_entries (Synced e) = e.object ∷ []
 step_entries (Registered x) = x ∷ []
 step_entries (Plain t) = []
-step_entries (Making t) = t.child ∷ []
+step_entries (Making t) = t.request.child ∷ []
 step_entries (Failed e) = one e.entered
 
 abbrev pub entries_shown : Answer → List ObjectId
@@ -147,7 +147,7 @@ pub data Ticket : Type 0 where
 abbrev pub ticket_of : Outstanding → Option Ticket
 ticket_of out.Nothing = None
 ticket_of (out.Plain o) = Some (plain o)
-ticket_of (out.Making o child bound) = Some (making o child bound)
+ticket_of (out.Making m) = Some (making m.origin m.child m.bound)
 
 -- the object that a ticket makes
 abbrev pub child_of : Option Ticket → Option ObjectId
@@ -164,16 +164,16 @@ step_papers Idle = []
 step_papers Closed = []
 step_papers (Synced e) = []
 step_papers (Registered x) = []
-step_papers (Plain t) = handed (plain t.origin) ∷ []
-step_papers (Making t) = handed (making t.origin t.child t.bound) ∷ []
+step_papers (Plain t) = handed (plain t.request) ∷ []
+step_papers (Making t) = handed (making t.request.origin t.request.child t.request.bound) ∷ []
 step_papers (Failed e) = []
 
 -- the ticket that a settle was given
 abbrev pub ticket_given : Call → Option Ticket
 ticket_given (admit d) = None
 ticket_given (step c b) = None
-ticket_given (settle_plain t) = Some (plain t.origin)
-ticket_given (settle_making t d) = Some (making t.origin t.child t.bound)
+ticket_given (settle_plain t) = Some (plain t.request)
+ticket_given (settle_making t d) = Some (making t.request.origin t.request.child t.request.bound)
 ticket_given (create c row version d) = None
 ticket_given (destroy x) = None
 ticket_given (send x opcode as') = None

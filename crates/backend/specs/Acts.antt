@@ -1,13 +1,12 @@
 -- The parts that every call is made of. Each is about one client: its record, its line, and what was done to both.
-use Rattle.std.specs.Prelude.{ℕ, cond, List, [], ◌∷◌, ◌++◌, map, Some, nat_lt}
+use Rattle.std.specs.Prelude.{ℕ, cond, List, [], ◌∷◌, ◌++◌, map, Some, Ok, Err, Result, nat_lt}
 use Rattle.map.specs.declared.DataMark.{DataMark}
 use Rattle.map.specs.declared.Object.{Object}
 use Rattle.map.specs.declared.ObjectData.{ObjectData}
 use Rattle.map.specs.Map.{limit, inserted, removed}
 use Rattle.message.specs.Events.{EventModel}
 use Rattle.wire.specs.Line.{Line, write_answer, written, flushed as flushed_line}
-use Rattle.wire.specs.declared.answers.Writing.{Writing}
-use Rattle.wire.specs.declared.answers.Writing.TheVariants.{Taken, Refused, BadSize}
+use Rattle.wire.specs.declared.answers.WriteError.{WriteError}
 use Rattle.backend.specs.declared.ids.ClientId.{ClientId}
 use Rattle.backend.specs.declared.ids.ObjectId.{ObjectId}
 use Rattle.backend.specs.declared.client.Client.{Client}
@@ -90,15 +89,13 @@ kill r s = record { client = killed r s.client; line = s.line; acts = s.acts }
 -- Writing.
 
 -- a write that is not taken kills the client as closed
-abbrev pub lost : Writing → Client → Client
-lost Taken k = k
-lost Refused k = killed ConnectionClosed k
-lost BadSize k = killed ConnectionClosed k
+abbrev pub lost : Result (Unit {0}) WriteError → Client → Client
+lost (Ok u) k = k
+lost (Err r) k = killed ConnectionClosed k
 
-abbrev pub heard : Writing → EventModel → Act
-heard Taken e = took e
-heard Refused e = refused e
-heard BadSize e = refused e
+abbrev pub heard : Result (Unit {0}) WriteError → EventModel → Act
+heard (Ok u) e = took e
+heard (Err r) e = refused e
 
 -- an event is put to the wire
 abbrev pub offer : EventModel → Seat → Seat

@@ -1,8 +1,8 @@
 -- The arguments of a request that is neither the display's nor a registry's, looked at one after the other.
 use Rattle.std.specs.Prelude.{ℕ, ◌+◌, Bool, true, false, cond, List, [], ◌∷◌, Some, None, Ok, Err, Option, Result, ◌==◌}
 use Rattle.map.specs.declared.DataMark.TheVariants.{Awaited}
-use Rattle.map.specs.declared.MapFault.{MapFault}
-use Rattle.map.specs.declared.MapFault.TheVariants as map
+use Rattle.map.specs.declared.fault.MapFault.{MapFault}
+use Rattle.map.specs.declared.fault.MapFault.TheVariants as map
 use Rattle.map.specs.declared.Object.{Object}
 use Rattle.map.specs.declared.ObjectData.{ObjectData}
 use Rattle.map.specs.Map.{find_in, insert_answer}

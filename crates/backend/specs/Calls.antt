@@ -1,6 +1,7 @@
 -- What each call looks for, and what it then does. (A step is in Requests, what an event must meet in Sending.)
-use Rattle.std.specs.Prelude.{ℕ, ◌+◌, ◌-◌, Bool, true, false, cond, not, ◌&&◌, ltb, List, [], ◌∷◌, length, set, Some, None, Ok, Err, Option, Result, ◌==◌, nat_lt}
-use Rattle.places.specs.Places.{first_vacant, grown}
+use Rattle.std.specs.Prelude.{ℕ, ◌+◌, ◌-◌, Bool, true, false, cond, not, ◌&&◌, ltb, List, [], ◌∷◌, length, Some, None, Ok, Err, Option, Result, ◌==◌, nat_lt}
+use Rattle.places.specs.Tables.{entered_in}
+use Rattle.places.specs.Places.{first_vacant}
 use Rattle.map.specs.declared.DataMark.{DataMark}
 use Rattle.map.specs.declared.DataMark.TheVariants.{Own, Number}
 use Rattle.map.specs.declared.Object.{Object}
@@ -12,8 +13,7 @@ use Rattle.protocol.specs.declared.refusal.Refusal.{Refusal}
 use Rattle.protocol.specs.declared.refusal.Refusal.TheVariants.{BadSize, TicketOutstanding, ClientKilled, Reserved, VersionAbove, NoVacancy}
 use Rattle.message.specs.Events.{sendable}
 use Rattle.wire.specs.Line.{carried, head_of, opened as opened_line, write_answer}
-use Rattle.wire.specs.declared.answers.Writing.{Writing}
-use Rattle.wire.specs.declared.answers.Writing.TheVariants.{Taken, Refused as NotTaken, BadSize as TooLarge}
+use Rattle.wire.specs.declared.answers.WriteError.{WriteError}
 use Rattle.backend.specs.declared.ids.ClientId.{ClientId}
 use Rattle.backend.specs.declared.ids.ObjectId.{ObjectId}
 use Rattle.backend.specs.declared.ids.GlobalId.{GlobalId}
@@ -41,7 +41,7 @@ use Rattle.backend.specs.declared.answers.SettledMaking.{SettledMaking}
 use Rattle.backend.specs.declared.answers.TidyAnswer.{TidyAnswer}
 use Rattle.backend.specs.declared.answers.TidyAnswer.TheVariants.{Reason, Ended, Vacated, Nothing}
 use Rattle.backend.specs.Ids.{local_of}
-use Rattle.backend.specs.World.{Terms, World, is_live, following, with_state, with_map, drawn, with_store, with_registry, with_place, with_roll, with_globals, with_outstanding, on_line}
+use Rattle.backend.specs.World.{Terms, World, is_live, following, with_state, with_map, drawn, with_store, with_registry, with_place, with_roll, with_global, with_outstanding, on_line}
 use Rattle.backend.specs.Acts.{entered, opened, Seat, Run, from, in_world, seat, tagged, resumed, kill, offer, fail, flush, fresh, new_object, remove, end}
 use Rattle.backend.specs.Registries.{off_roll, global_id, announce, retract, along_roll}
 use Rattle.backend.specs.Requests.{Buffers, Stepped, stepped}
@@ -69,7 +69,7 @@ abbrev pub newcomer : ℕ → ℕ → Client
 newcomer serial d = record { serial = serial; «data» = d; state = Live; last_serial = 0; map = inserted empty_map 1 display_object }
 
 abbrev pub admit_check : World → Result ℕ Refusal
-admit_check w = present (first_vacant w.engine.store.clients w.engine.store.len) NoVacancy
+admit_check w = present (first_vacant w.engine.store.clients.places w.engine.store.clients.len) NoVacancy
 
 -- the handle of a client that is admitted now
 abbrev pub new_client_id : ℕ → World → ClientId
@@ -77,8 +77,7 @@ new_client_id p w = record { place = p; serial = following w.engine.store.last_s
 
 abbrev pub admit_world : ℕ → ℕ → World → World
 admit_world d p w = on_line p opened_line (with_store (record {
-  clients = set w.engine.store.clients p (Some (newcomer (following w.engine.store.last_serial) d));
-  len = grown w.engine.store.len p;
+  clients = entered_in (Some p) w.engine.store.clients (newcomer (following w.engine.store.last_serial) d);
   last_serial = following w.engine.store.last_serial;
 }) w)
 
@@ -91,7 +90,7 @@ admit_act d w p =
 abbrev pub is_free : Outstanding → Bool
 is_free out.Nothing = true
 is_free (out.Plain o) = false
-is_free (out.Making o child bound) = false
+is_free (out.Making m) = false
 
 abbrev pub roomy : Buffers → Bool
 roomy b = not (nat_lt (length b.text) 192) && not (nat_lt (length b.body) 4096)
@@ -209,10 +208,9 @@ send_check t x opcode as' w =
     passing (the_client w x.client) (λ k.
     cond (is_live k.state) (sendable_to k (send_checks t.rows k x opcode as')) (Ok (record { client = k; what = None }))))
 
-abbrev pub send_answer : Writing → Option End → SendAnswer
-send_answer Taken e = Sent e
-send_answer NotTaken e = Lost e
-send_answer TooLarge e = Lost e
+abbrev pub send_answer : Result (Unit {0}) WriteError → Option End → SendAnswer
+send_answer (Ok u) e = Sent e
+send_answer (Err r) e = Lost e
 
 -- an event with the destructor mark ends its sender after the write, taken or refused
 abbrev pub send_end : ObjectId → Sendable → Option End
@@ -291,7 +289,7 @@ abbrev pub add_check : Terms → ℕ → ℕ → World → Result ℕ Refusal
 add_check t row version w =
     passing (the_row t.rows row) (λ h.
     passing (unless (not (nat_lt h.version version)) VersionAbove) (λ _.
-    present (first_vacant w.engine.registry.globals w.engine.registry.len) NoVacancy))
+    present (first_vacant w.engine.registry.globals.places w.engine.registry.globals.len) NoVacancy))
 
 abbrev pub new_global : ℕ → ℕ → ℕ → World → Global
 new_global row version handler w =
@@ -299,8 +297,7 @@ new_global row version handler w =
 
 abbrev pub add_world : ℕ → Global → World → World
 add_world p g w = with_registry (record {
-  globals = set w.engine.registry.globals p (Some g);
-  len = grown w.engine.registry.len p;
+  globals = entered_in (Some p) w.engine.registry.globals g;
   last_serial = following w.engine.registry.last_serial;
   roll = w.engine.registry.roll;
 }) w
@@ -315,7 +312,7 @@ abbrev pub disabled_global : Global → Global
 disabled_global g = record { serial = g.serial; row = g.row; version = g.version; handler = g.handler; disabled = true }
 
 abbrev pub global_put : ℕ → Option Global → World → World
-global_put name g w = with_globals (set w.engine.registry.globals (name - 1) g) w
+global_put name g w = with_global (name - 1) g w
 
 -- once, every registry of the roll hears that the global is gone
 abbrev pub disable_run : GlobalId → World → Global → Run
@@ -369,4 +366,4 @@ tidy_at None w = done Nothing (from w)
 tidy_at (Some f) w = tidy_act (found_id f) f.client.state (next_handle (found_id f) f.client 0) f.client w
 
 abbrev pub tidy_done : World → Done TidyAnswer
-tidy_done w = tidy_at (lowest_killed 0 w.engine.store.clients) w
+tidy_done w = tidy_at (lowest_killed 0 w.engine.store.clients.places) w

@@ -1,6 +1,6 @@
 -- Looking for refusals: each check gives what was found, or the refusal, and the first refusal is the answer.
 use Rattle.std.specs.Prelude.{ℕ, Bool, true, false, List, Some, None, Ok, Err, Option, Result}
-use Rattle.map.specs.declared.InvalidId.{InvalidId}
+use Rattle.map.specs.declared.fault.InvalidId.{InvalidId}
 use Rattle.map.specs.declared.Object.{Object}
 use Rattle.map.specs.declared.ObjectData.{ObjectData}
 use Rattle.map.specs.Named.{lookup_in}
@@ -59,4 +59,4 @@ the_row rows row = present (heading_in rows row) NoRow
 
 -- the global of a handle
 abbrev pub the_global : World → GlobalId → Result Global Refusal
-the_global w i = present (global_at w.engine.registry.globals i) NoGlobal
+the_global w i = present (global_at w.engine.registry.globals.places i) NoGlobal

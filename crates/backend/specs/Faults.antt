@@ -1,7 +1,7 @@
 -- The error that a client is told for each fault.
 use Rattle.std.specs.Prelude.{ℕ}
-use Rattle.map.specs.declared.MapFault.{MapFault}
-use Rattle.map.specs.declared.MapFault.TheVariants.{Zero, Beyond, Taken, Full}
+use Rattle.map.specs.declared.fault.MapFault.{MapFault}
+use Rattle.map.specs.declared.fault.MapFault.TheVariants.{Zero, Beyond, Taken, Full}
 use Rattle.backend.specs.declared.faults.DisplayError.{DisplayError}
 use Rattle.backend.specs.declared.faults.DisplayError.TheVariants.{InvalidObject, InvalidMethod, NoMemory}
 use Rattle.backend.specs.declared.faults.ClientFault.{ClientFault}

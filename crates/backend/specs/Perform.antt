@@ -7,8 +7,7 @@ use Rattle.backend.specs.declared.ids.GlobalId.{GlobalId}
 use Rattle.backend.specs.declared.client.DisconnectReason.{DisconnectReason}
 use Rattle.backend.specs.declared.client.Client.{Client}
 use Rattle.backend.specs.declared.client.End.{End}
-use Rattle.backend.specs.declared.ticket.PlainTicket.{PlainTicket}
-use Rattle.backend.specs.declared.ticket.MakingTicket.{MakingTicket}
+use Rattle.backend.specs.declared.ticket.Outstanding.TheVariants as out
 use Rattle.backend.specs.declared.answers.StepAnswer.{StepAnswer}
 use Rattle.backend.specs.declared.answers.SettledMaking.{SettledMaking}
 use Rattle.backend.specs.declared.answers.SendAnswer.{SendAnswer}
@@ -16,7 +15,7 @@ use Rattle.backend.specs.declared.answers.ObjectInfo.{ObjectInfo}
 use Rattle.backend.specs.declared.answers.KillAnswer.{KillAnswer}
 use Rattle.backend.specs.declared.answers.DisableAnswer.{DisableAnswer}
 use Rattle.backend.specs.declared.answers.TidyAnswer.{TidyAnswer}
-use Rattle.backend.specs.Tickets.{plain_is, making_is}
+use Rattle.backend.specs.Tickets.{PlainTicket, MakingTicket, same_ticket}
 use Rattle.backend.specs.World.{Terms, World}
 use Rattle.backend.specs.Acts.{Run, from}
 use Rattle.backend.specs.Requests.{Buffers}
@@ -98,9 +97,9 @@ abbrev pub perform : Terms → Call → World → Outcome
 perform t (admit d) w = checked admitted (admit_check w) w (admit_act d w)
 perform t (step c b) w = checked stepped (step_check c b w) w (step_act t c b w)
 perform t (settle_plain x) w =
-    cond (plain_is w.engine.outstanding x.origin) (settled_by settled_plain x w (plain_act x.origin w)) (returned settled_plain x w)
+    cond (same_ticket w.engine.outstanding (out.Plain x.request)) (settled_by settled_plain x w (plain_act x.request w)) (returned settled_plain x w)
 perform t (settle_making x d) w =
-    cond (making_is w.engine.outstanding x.origin x.child x.bound) (settled_by settled_making x w (making_act x.origin x.child d w)) (returned settled_making x w)
+    cond (same_ticket w.engine.outstanding (out.Making x.request)) (settled_by settled_making x w (making_act x.request.origin x.request.child d w)) (returned settled_making x w)
 perform t (create c row version d) w = checked created (create_check t c row w) w (create_act c row version d w)
 perform t (destroy x) w = checked destroyed (destroy_check x w) w (destroy_act x w)
 perform t (send x opcode as') w = checked sent (send_check t x opcode as' w) w (send_act x opcode as' w)

@@ -2,7 +2,7 @@
 use Rattle.std.specs.Prelude.{ℕ, cond, not, ◌&&◌, List, [], ◌∷◌, length, Some, None, Ok, Err, Option, Result, ◌==◌, nat_lt}
 use Rattle.std.specs.Str.{bytes_eq}
 use Rattle.map.specs.declared.DataMark.TheVariants.{Own, Awaited}
-use Rattle.map.specs.declared.MapFault.{MapFault}
+use Rattle.map.specs.declared.fault.MapFault.{MapFault}
 use Rattle.map.specs.declared.Object.{Object}
 use Rattle.map.specs.declared.ObjectData.{ObjectData}
 use Rattle.map.specs.Map.{find_in, insert_answer}
@@ -32,7 +32,7 @@ use Rattle.backend.specs.declared.answers.StepAnswer.TheVariants.{Idle, Closed, 
 use Rattle.backend.specs.Events.{done_event}
 use Rattle.backend.specs.Faults.{code_of, number_of_error}
 use Rattle.backend.specs.Texts.{name_in, unknown_id, unknown_opcode, invalid_method, invalid_binding, no_memory, malformed_request, null_interface}
-use Rattle.backend.specs.Tickets.{plain_of, making_of}
+use Rattle.backend.specs.Tickets.{unsettled, making_of}
 use Rattle.backend.specs.World.{Terms}
 use Rattle.backend.specs.Acts.{received, Seat, kill, offer, fail, fresh, enter, draw, end}
 use Rattle.backend.specs.Registries.{roll_end, enrolled, global_id, global_named, visible, announce_all}
@@ -84,12 +84,12 @@ failed p f made s b =
 
 -- a plain ticket is handed out
 abbrev pub hand_plain : Place → Origin → List (Option ObjectId) → Seat → Buffers → Stepped
-hand_plain p o os s b = record { answer = Plain (plain_of o); seat = s; roll = p.registry.roll; outstanding = out.Plain o; buffers = with_objects os b }
+hand_plain p o os s b = record { answer = Plain (unsettled o); seat = s; roll = p.registry.roll; outstanding = out.Plain o; buffers = with_objects os b }
 
 -- a making ticket is handed out
 abbrev pub hand_making : Place → Origin → ObjectId → Option Bound → List (Option ObjectId) → Seat → Buffers → Stepped
 hand_making p o child bound os s b =
-    record { answer = Making (making_of o child bound); seat = s; roll = p.registry.roll; outstanding = out.Making o child bound; buffers = with_objects os b }
+    record { answer = Making (unsettled (making_of o child bound)); seat = s; roll = p.registry.roll; outstanding = out.Making (making_of o child bound); buffers = with_objects os b }
 
 -- wl_display.sync: a callback is entered, told that it is done, and ends
 abbrev pub synced : Place → ℕ → Result (Unit {0}) MapFault → Seat → Buffers → Stepped
@@ -103,7 +103,7 @@ abbrev pub enlisted : Place → ℕ → Option ℕ → Seat → Buffers → Step
 enlisted p id None s b = failed p (at_argument 0 RollFull no_memory) None (draw s) b
 enlisted p id (Some i) s b = record {
   answer = Registered (fresh p.client id 2 s.client);
-  seat = announce_all p.terms (fresh p.client id 2 s.client) 1 p.registry.globals (enter p.client id 2 1 Own s);
+  seat = announce_all p.terms (fresh p.client id 2 s.client) 1 p.registry.globals.places (enter p.client id 2 1 Own s);
   roll = enrolled (fresh p.client id 2 s.client) p.registry.roll;
   outstanding = out.Nothing;
   buffers = b;
@@ -143,7 +143,7 @@ abbrev pub bind_named : Place → Origin → ℕ → Option Part → ℕ → ℕ
 bind_named p o name None version id s b = failed p (at_argument 1 NullInterface null_interface) None s b
 bind_named p o name (Some text) version id s b =
     bind_to p o name (part_in b.body text) version id
-    (bindable p s.client name (part_in b.body text) version (global_named p.registry.globals name)) s b
+    (bindable p s.client name (part_in b.body text) version (global_named p.registry.globals.places name)) s b
 
 -- a request of a registry, which is a bind
 abbrev pub bound : Place → Origin → Option (BindAsked Part) → Seat → Buffers → Stepped

@@ -1,6 +1,6 @@
 -- Sending an event: what is looked at before, argument by argument, and what goes to the wire.
 use Rattle.std.specs.Prelude.{ℕ, Bool, true, false, cond, not, ◌&&◌, List, [], ◌∷◌, Some, None, Ok, Err, Option, Result, ◌==◌, nat_lt}
-use Rattle.map.specs.declared.InvalidId.{InvalidId}
+use Rattle.map.specs.declared.fault.InvalidId.{InvalidId}
 use Rattle.map.specs.declared.Object.{Object as MapObject}
 use Rattle.map.specs.declared.ObjectData.{ObjectData}
 use Rattle.map.specs.Named.{lookup_in}

@@ -6,18 +6,25 @@ use Rattle.backend.specs.declared.ids.ObjectId.{ObjectId}
 use Rattle.backend.specs.declared.ticket.Origin.{Origin}
 use Rattle.backend.specs.declared.ticket.Bound.{Bound}
 use Rattle.backend.specs.declared.ticket.Outstanding.{Outstanding}
-use Rattle.backend.specs.declared.ticket.Outstanding.TheVariants.{Nothing, Plain, Making}
-use Rattle.backend.specs.declared.ticket.PlainTicket.{PlainTicket}
-use Rattle.backend.specs.declared.ticket.MakingTicket.{MakingTicket}
+use Rattle.backend.specs.declared.ticket.Making.{Making}
+use Rattle.backend.specs.declared.ticket.Outstanding.TheVariants.{Nothing, Plain, Making as MakingOut}
+use Rattle.backend.specs.declared.ticket.Ticket.{Ticket}
 use Rattle.backend.specs.Ids.{same_client, same_object, same_global}
 
--- a plain ticket that is not settled yet
-abbrev pub plain_of : Origin → PlainTicket
-plain_of o = record { origin = o; spent = false }
+-- the two kinds of tickets
+abbrev pub PlainTicket : Type 0
+PlainTicket = Ticket Origin
 
--- a making ticket that is not settled yet
-abbrev pub making_of : Origin → ObjectId → Option Bound → MakingTicket
-making_of o child bound = record { origin = o; child = child; bound = bound; spent = false }
+abbrev pub MakingTicket : Type 0
+MakingTicket = Ticket Making
+
+-- a ticket that is not settled yet
+abbrev pub unsettled : {R : Type 0} → R → Ticket R
+unsettled r = record { request = r; spent = false }
+
+-- what a request that makes an object has besides its origin
+abbrev pub making_of : Origin → ObjectId → Option Bound → Making
+making_of o child bound = record { origin = o; child = child; bound = bound }
 
 -- the same data mark
 abbrev pub same_mark : DataMark → DataMark → Bool
@@ -49,29 +56,26 @@ same_bound None (Some b) = false
 same_bound (Some a) None = false
 same_bound (Some a) (Some b) = same_global a.global b.global && a.handler == b.handler
 
--- a plain ticket of this origin is outstanding
-abbrev pub plain_is : Outstanding → Origin → Bool
-plain_is Nothing o = false
-plain_is (Plain out) o = same_origin out o
-plain_is (Making out child bound) o = false
+-- the same request that makes an object, field for field
+abbrev pub same_making : Making → Making → Bool
+same_making a b = same_origin a.origin b.origin && (same_object a.child b.child && same_bound a.bound b.bound)
 
--- a making ticket of these parts is outstanding
-abbrev pub making_is : Outstanding → Origin → ObjectId → Option Bound → Bool
-making_is Nothing o x b = false
-making_is (Plain out) o x b = false
-making_is (Making out child bound) o x b = same_origin out o && (same_object child x && same_bound bound b)
+-- the same ticket is outstanding, or none in both
+abbrev pub same_ticket : Outstanding → Outstanding → Bool
+same_ticket Nothing Nothing = true
+same_ticket Nothing (Plain b) = false
+same_ticket Nothing (MakingOut b) = false
+same_ticket (Plain a) Nothing = false
+same_ticket (Plain a) (Plain b) = same_origin a b
+same_ticket (Plain a) (MakingOut b) = false
+same_ticket (MakingOut a) Nothing = false
+same_ticket (MakingOut a) (Plain b) = false
+same_ticket (MakingOut a) (MakingOut b) = same_making a b
 
--- a plain ticket is taken back where it is the one outstanding, and else it comes back
-abbrev pub plain_answer : Outstanding → PlainTicket → Result Origin PlainTicket
-plain_answer out t = cond (plain_is out t.origin) (Ok t.origin) (Err t)
+-- a ticket, of which this would be outstanding, is taken back where it is the one, and else it comes back
+abbrev pub taken_answer : {R : Type 0} → Outstanding → Outstanding → Ticket R → Result R (Ticket R)
+taken_answer out this t = cond (same_ticket out this) (Ok t.request) (Err t)
 
 -- and then nothing is outstanding
-abbrev pub plain_after : Outstanding → PlainTicket → Outstanding
-plain_after out t = cond (plain_is out t.origin) Nothing out
-
--- the same of a making ticket
-abbrev pub making_answer : Outstanding → MakingTicket → Result Origin MakingTicket
-making_answer out t = cond (making_is out t.origin t.child t.bound) (Ok t.origin) (Err t)
-
-abbrev pub making_after : Outstanding → MakingTicket → Outstanding
-making_after out t = cond (making_is out t.origin t.child t.bound) Nothing out
+abbrev pub taken_after : Outstanding → Outstanding → Outstanding
+taken_after out this = cond (same_ticket out this) Nothing out

@@ -1,6 +1,8 @@
 -- What a call is made on: the engine's record, and a line for each place.
 use Rattle.std.specs.Prelude.{ℕ, ◌+◌, ◌%◌, ◌^◌, Bool, true, false, cond, List, replicate, Some, None, Option, ◌==◌, slice_set}
+use Rattle.places.specs.declared.table.Table.{Table}
 use Rattle.places.specs.Places.{at}
+use Rattle.places.specs.Tables.{empty_table}
 use Rattle.map.specs.declared.ObjectData.{ObjectData}
 use Rattle.map.specs.declared.ObjectMap.{ObjectMap}
 use Rattle.protocol.specs.Model.{RowModel}
@@ -41,8 +43,8 @@ roll_places = 32
 -- an engine to which nothing was done yet
 abbrev pub new_engine : Engine
 new_engine = record {
-  store = record { clients = replicate client_places None; len = 0; last_serial = 0 };
-  registry = record { globals = replicate global_places None; len = 0; last_serial = 0; roll = replicate roll_places None };
+  store = record { clients = empty_table client_places; last_serial = 0 };
+  registry = record { globals = empty_table global_places; last_serial = 0; roll = replicate roll_places None };
   outstanding = Nothing;
 }
 
@@ -67,7 +69,7 @@ named c (Some k) = cond (k.serial == c.serial) (Some k) None
 
 -- the client that a handle names: place and serial agree
 abbrev pub client_at : World → ClientId → Option Client
-client_at w c = named c (at w.engine.store.clients c.place)
+client_at w c = named c (at w.engine.store.clients.places c.place)
 
 abbrev pub with_state : ClientState → Client → Client
 with_state s k = record { serial = k.serial; «data» = k.«data»; state = s; last_serial = k.last_serial; map = k.map }
@@ -97,15 +99,20 @@ with_registry r w = with_engine (record { store = w.engine.store; registry = r; 
 abbrev pub with_outstanding : Outstanding → World → World
 with_outstanding o w = with_engine (record { store = w.engine.store; registry = w.engine.registry; outstanding = o }) w
 
+-- a table with another content of a place
+abbrev pub with_content : {T : Type 0} {n : ℕ} → ℕ → Option T → Table T n → Table T n
+with_content p o t = record { places = slice_set t.places p o; len = t.len }
+
 -- what stands at a place of the clients
 abbrev pub with_place : ℕ → Option Client → World → World
-with_place p k w = with_store (record { clients = slice_set w.engine.store.clients p k; len = w.engine.store.len; last_serial = w.engine.store.last_serial }) w
+with_place p k w = with_store (record { clients = with_content p k w.engine.store.clients; last_serial = w.engine.store.last_serial }) w
 
 abbrev pub with_roll : List (Option ObjectId) → World → World
-with_roll xs w = with_registry (record { globals = w.engine.registry.globals; len = w.engine.registry.len; last_serial = w.engine.registry.last_serial; roll = xs }) w
+with_roll xs w = with_registry (record { globals = w.engine.registry.globals; last_serial = w.engine.registry.last_serial; roll = xs }) w
 
-abbrev pub with_globals : List (Option Global) → World → World
-with_globals gs w = with_registry (record { globals = gs; len = w.engine.registry.len; last_serial = w.engine.registry.last_serial; roll = w.engine.registry.roll }) w
+-- what stands at a place of the globals
+abbrev pub with_global : ℕ → Option Global → World → World
+with_global p g w = with_registry (record { globals = with_content p g w.engine.registry.globals; last_serial = w.engine.registry.last_serial; roll = w.engine.registry.roll }) w
 
 -- the line of a place, changed
 abbrev pub on_line : ℕ → (Line → Line) → World → World

@@ -8,7 +8,7 @@ use crate::ticket::{MakingTicket, PlainTicket};
 use map::DataMark;
 
 /// What became of a request that broke the protocol: the client is told, and killed.
-#[derive(Clone, Copy)]
+#[derive(Clone, Copy, PartialEq, Eq, Debug)]
 pub struct StepError {
     pub fault: StepFault,
     /// the object that the request had entered before the fault
@@ -37,7 +37,7 @@ pub enum StepAnswer {
 }
 
 /// What became of the child of a making ticket.
-#[derive(Clone, Copy)]
+#[derive(Clone, Copy, PartialEq, Eq, Debug)]
 pub enum ChildAnswer {
     /// it has its data
     Set,
@@ -46,7 +46,7 @@ pub enum ChildAnswer {
 }
 
 /// What the settling of a making ticket did.
-#[derive(Clone, Copy)]
+#[derive(Clone, Copy, PartialEq, Eq, Debug)]
 pub struct SettledMaking {
     /// the end of the sender of a destructor
     pub ended: Option<End>,
@@ -54,7 +54,7 @@ pub struct SettledMaking {
 }
 
 /// What became of an event. An event with the destructor mark ends its sender, whether or not the wire took it.
-#[derive(Clone, Copy)]
+#[derive(Clone, Copy, PartialEq, Eq, Debug)]
 pub enum SendAnswer {
     /// the wire took it
     Sent(Option<End>),
@@ -65,7 +65,7 @@ pub enum SendAnswer {
 }
 
 /// What an object is.
-#[derive(Clone, Copy)]
+#[derive(Clone, Copy, PartialEq, Eq, Debug)]
 pub struct ObjectInfo {
     pub row: u32,
     pub version: u32,
@@ -73,7 +73,7 @@ pub struct ObjectInfo {
 }
 
 /// What a post or a kill did.
-#[derive(Clone, Copy)]
+#[derive(Clone, Copy, PartialEq, Eq, Debug)]
 pub enum KillAnswer {
     /// the client is killed for this reason, or as closed where the wire refused the error
     Killed,
@@ -82,7 +82,7 @@ pub enum KillAnswer {
 }
 
 /// What a disabling did.
-#[derive(Clone, Copy)]
+#[derive(Clone, Copy, PartialEq, Eq, Debug)]
 pub enum DisableAnswer {
     /// every registry of a client that is not killed was told
     Disabled,
@@ -91,7 +91,7 @@ pub enum DisableAnswer {
 }
 
 /// What a tidying did, at the lowest place of a killed client.
-#[derive(Clone, Copy)]
+#[derive(Clone, Copy, PartialEq, Eq, Debug)]
 pub enum TidyAnswer {
     /// the reason is told
     Reason(Disconnected),

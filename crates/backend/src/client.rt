@@ -2,12 +2,13 @@
 
 use crate::ids::{ClientId, ObjectId};
 use map::{DataMark, ObjectData, ObjectMap};
+use places::Table;
 
 /// How many clients there can be at a time. Fixed, since a client that finds no place is refused by a number.
 pub const CLIENTS: usize = 8;
 
 /// What a protocol error names.
-#[derive(Clone, Copy)]
+#[derive(Clone, Copy, PartialEq, Eq, Debug)]
 pub struct ProtocolError {
     pub code: u32,
     /// the id of the object that the error is about
@@ -17,7 +18,7 @@ pub struct ProtocolError {
 }
 
 /// Why a client was killed.
-#[derive(Clone, Copy)]
+#[derive(Clone, Copy, PartialEq, Eq, Debug)]
 pub enum DisconnectReason {
     /// its line is broken, or a write to it was refused
     ConnectionClosed,
@@ -25,7 +26,7 @@ pub enum DisconnectReason {
 }
 
 /// Where a client stands. A killed client stays in its place until it is tidied away.
-#[derive(Clone, Copy)]
+#[derive(Clone, Copy, PartialEq, Eq, Debug)]
 pub enum ClientState {
     Live,
     /// killed, and the reason is not told yet
@@ -47,7 +48,7 @@ pub struct Client {
 }
 
 /// The end of an object: its handle, and the data that it had.
-#[derive(Clone, Copy)]
+#[derive(Clone, Copy, PartialEq, Eq, Debug)]
 pub struct End {
     pub object: ObjectId,
     pub mark: DataMark,
@@ -56,15 +57,13 @@ pub struct End {
 /// The clients in their places.
 #[derive(Drop)]
 pub struct ClientStore {
-    pub clients: [Option<Client>; CLIENTS],
-    /// how many places were ever used
-    pub len: usize,
+    pub clients: Table<Client, CLIENTS>,
     /// the last serial that a client took
     pub last_serial: u32,
 }
 
 /// The reason of a client's end, with the client.
-#[derive(Clone, Copy)]
+#[derive(Clone, Copy, PartialEq, Eq, Debug)]
 pub struct Disconnected {
     pub client: ClientId,
     pub reason: DisconnectReason,

@@ -8,11 +8,11 @@ ghost use Rattle.backend.specs.Faults.{code_of, code_in, number_of_error};
 use map::MapFault;
 
 /// The codes of `wl_display.error` that the engine gives.
-#[derive(Clone, Copy)]
+#[derive(Clone, Copy, PartialEq, Eq, Debug)]
 pub enum DisplayError {
-    InvalidObject,
-    InvalidMethod,
-    NoMemory,
+    InvalidObject = 0,
+    InvalidMethod = 1,
+    NoMemory = 2,
 }
 
 impl DisplayError {
@@ -20,16 +20,12 @@ impl DisplayError {
     pub fn code(self) -> u32
         ensures { result ≡ number_of_error self }
     {
-        match self {
-            DisplayError::InvalidObject => 0,
-            DisplayError::InvalidMethod => 1,
-            DisplayError::NoMemory => 2,
-        }
+        self as u32
     }
 }
 
 /// What is wrong with one argument.
-#[derive(Clone, Copy)]
+#[derive(Clone, Copy, PartialEq, Eq, Debug)]
 pub enum ClientFault {
     /// a new id was not entered
     Entry(MapFault),
@@ -64,14 +60,14 @@ impl ClientFault {
 }
 
 /// What is wrong with a request's arguments: the first that is at fault, counted from 0.
-#[derive(Clone, Copy)]
+#[derive(Clone, Copy, PartialEq, Eq, Debug)]
 pub struct ArgumentFault {
     pub index: u32,
     pub fault: ClientFault,
 }
 
 /// How a request broke the protocol.
-#[derive(Clone, Copy)]
+#[derive(Clone, Copy, PartialEq, Eq, Debug)]
 pub enum StepFault {
     /// its sender is not live
     UnknownSender,
@@ -101,6 +97,7 @@ impl StepFault {
     }
 }
 
+// The two conversions are written by hand: a derived one does not say which fault a `?` makes.
 impl From<MapFault> for ClientFault {
     ghost from_gives = { λ e r. r ≡ Entry e };
 

@@ -2,19 +2,22 @@
 //! names something only where all its parts agree.
 
 ghost use Rattle.std.specs.Prelude.{◌≡◌};
+ghost use Rattle.backend.specs.declared.ids.ClientId.{ClientId as Client};
+ghost use Rattle.backend.specs.declared.ids.ObjectId.{ObjectId as Object};
+ghost use Rattle.backend.specs.declared.ids.GlobalId.{GlobalId as Global};
 ghost use Rattle.backend.specs.Ids.{local_of, same_client, same_object, same_global};
 
 use map::LocalId;
 
 /// A client: the place that it was given, and the serial of its admission.
-#[derive(Clone, Copy)]
+#[derive(Clone, Copy, PartialEq, Eq, Debug)]
 pub struct ClientId {
     pub place: u32,
     pub serial: u32,
 }
 
 /// An object of a client.
-#[derive(Clone, Copy)]
+#[derive(Clone, Copy, PartialEq, Eq, Debug)]
 pub struct ObjectId {
     pub client: ClientId,
     pub id: u32,
@@ -24,7 +27,7 @@ pub struct ObjectId {
 }
 
 /// A global: its name is its place + 1.
-#[derive(Clone, Copy)]
+#[derive(Clone, Copy, PartialEq, Eq, Debug)]
 pub struct GlobalId {
     pub name: u32,
     pub serial: u32,
@@ -43,32 +46,9 @@ impl ObjectId {
     }
 }
 
-impl ClientId {
-    /// Whether two handles name the same client.
-    pub fn is(self, other: Self) -> bool
-        ensures { result ≡ same_client self other }
-    {
-        self.place == other.place && self.serial == other.serial
-    }
-}
-
-impl ObjectId {
-    /// Whether two handles name the same object.
-    pub fn is(self, other: Self) -> bool
-        ensures { result ≡ same_object self other }
-    {
-        self.client.is(other.client)
-            && self.id == other.id
-            && self.serial == other.serial
-            && self.row == other.row
-    }
-}
-
-impl GlobalId {
-    /// Whether two handles name the same global.
-    pub fn is(self, other: Self) -> bool
-        ensures { result ≡ same_global self other }
-    {
-        self.name == other.name && self.serial == other.serial
-    }
-}
+/// Two handles are equal exactly where all their parts agree: the laws stand.
+pub fn handle_laws()
+    ensures clients { (a b : Client) → ⟦<ClientId as PartialEq>⟧.eq a b ≡ same_client a b }
+    ensures objects { (a b : Object) → ⟦<ObjectId as PartialEq>⟧.eq a b ≡ same_object a b }
+    ensures globals { (a b : Global) → ⟦<GlobalId as PartialEq>⟧.eq a b ≡ same_global a b }
+{}

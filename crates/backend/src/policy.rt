@@ -3,7 +3,7 @@
 ghost use Rattle.std.specs.Prelude.{◌≡◌, ℕ, Bool, true};
 ghost use Rattle.backend.specs.declared.ids.ClientId.{ClientId};
 ghost use Rattle.backend.specs.declared.ids.GlobalId.{GlobalId};
-ghost use Rattle.backend.specs.Policies.{is_pair, paired};
+ghost use Rattle.backend.specs.Policies.{paired};
 
 use crate::ids::{ClientId, GlobalId};
 
@@ -29,19 +29,10 @@ impl Policy for ShowAll {
 }
 
 /// A client with this data sees the globals with this handler.
-#[derive(Clone, Copy)]
+#[derive(Clone, Copy, PartialEq, Eq, Debug)]
 pub struct Pair {
     pub data: u32,
     pub handler: u32,
-}
-
-impl Pair {
-    /// Whether the pair is of this data and this handler.
-    fn is(self, data: u32, handler: u32) -> bool
-        ensures { result ≡ is_pair self «data» handler }
-    {
-        self.data == data && self.handler == handler
-    }
 }
 
 /// A client sees the globals whose handler is listed with its data.
@@ -54,18 +45,6 @@ impl Policy for ShowListed<'_> {
     ghost shows = { λ s _ d _ h. paired s.pairs.now d h };
 
     fn can_view(&self, _client: ClientId, data: u32, _global: GlobalId, handler: u32) -> bool {
-        is_listed(self.pairs, data, handler)
+        self.pairs.contains(&Pair { data, handler })
     }
-}
-
-// Whether the pair is in the list.
-fn is_listed(pairs: &[Pair], data: u32, handler: u32) -> bool
-    ensures { result ≡ paired pairs.now «data» handler }
-{
-    for pair in pairs {
-        if pair.is(data, handler) {
-            return true;
-        }
-    }
-    false
 }

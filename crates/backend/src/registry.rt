@@ -1,6 +1,7 @@
 //! The globals, and the roll of the registries that hear of them.
 
 use crate::ids::ObjectId;
+use places::Table;
 
 /// How many globals there can be at a time. Fixed, since one that finds no place is refused by a number.
 pub const GLOBALS: usize = 32;
@@ -9,7 +10,7 @@ pub const GLOBALS: usize = 32;
 pub const REGISTRIES: usize = 32;
 
 /// A global.
-#[derive(Clone, Copy)]
+#[derive(Clone, Copy, PartialEq, Eq, Debug)]
 pub struct Global {
     pub serial: u32,
     /// the catalogue row of its interface
@@ -24,11 +25,9 @@ pub struct Global {
 /// The globals in their places, and the registries in the order in which they were asked for.
 #[derive(Drop)]
 pub struct Registry {
-    pub globals: [Option<Global>; GLOBALS],
-    /// how many places were ever used
-    pub len: usize,
+    pub globals: Table<Global, GLOBALS>,
     /// the last serial that a global took
     pub last_serial: u32,
-    /// the registries, with no gap before the last
+    /// the registries, with no gap before the last; of fixed size, since a full roll is an answer of the rules
     pub roll: [Option<ObjectId>; REGISTRIES],
 }

@@ -58,10 +58,9 @@ const CONFIRM: Described = Described {
 
 // A catalogue of 6 rows, of which 4 and 5 have the same name.
 fn panels(heap: Global) -> Result<Filled, Fail> {
-    let mut made = Filled::new(heap, 6).map_err(|_| "not made")?;
+    let mut made = Filled::new(heap, 6)?;
     for (number, count) in [(4, 1), (5, 16)] {
-        let panel = row(heap, b"film_panel", count, CONFIRM)?;
-        made.fill(number, panel).map_err(|_| "not filled")?;
+        made.fill(number, row(heap, b"film_panel", count, CONFIRM)?)?;
     }
     Ok(made)
 }

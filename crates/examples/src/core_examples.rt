@@ -2,7 +2,7 @@
 
 use protocol::argument::{AllowNull, ArgumentType};
 use protocol::catalogue::{Catalogue, Core};
-use protocol::interface::MessageDesc;
+use protocol::interface::{Heading, MessageDesc};
 
 /// A message as wayland.xml describes it.
 #[derive(Clone, Copy)]
@@ -108,12 +108,15 @@ const WAYLAND_XML: [Described; 8] = [
 ];
 
 pub(crate) fn is_as_described(message: MessageDesc<'_>, described: Described) -> bool {
-    message.name == described.name
-        && message.since == 1
-        && message.is_destructor == described.destructor
-        && message.signature == described.signature
-        && message.child_interface == described.child
-        && message.arg_interfaces == described.rows
+    message
+        == MessageDesc {
+            name: described.name,
+            signature: described.signature,
+            since: 1,
+            is_destructor: described.destructor,
+            child_interface: described.child,
+            arg_interfaces: described.rows,
+        }
 }
 
 fn core_has(described: Described) -> bool {

@@ -7,7 +7,7 @@ use Rattle.places.proofs.Laws.{at_set_none, at_set_same, at_set_other, entry_wit
 use Rattle.places.proofs.Entries.{none_if, new_vacant}
 use Rattle.places.proofs.Search.{occupied_within}
 use Rattle.places.proofs.Vacant.{vacant_within, vacant_least, vacant_nowhere}
-use Rattle.map.specs.declared.MapFault.{MapFault}
+use Rattle.map.specs.declared.fault.MapFault.{MapFault}
 use Rattle.map.specs.declared.Object.{Object}
 use Rattle.map.specs.declared.ObjectMap.{ObjectMap}
 use Rattle.map.specs.Map.{limit, client_places, server_places, empty_map, find_in, put_at, removed, with_data, invalid, there, data_answer, data_over, data_after, insert_answer, inserted, new_answer, new_server, new_after}
@@ -55,13 +55,13 @@ module _ {D : Type 0} where
   pub removed_none : (m : ObjectMap D) (id : ℕ) → find_in (removed m id) id ≡ None
   removed_none m id = grind (arith, nat_tests, at_set_none, none_if)
 
-  new_found_at : (m : ObjectMap D) (id : ℕ) (o : Object D) (r : Option ℕ) → first_vacant m.server_objects m.server_len ≡ r → option_map (λ i. i + limit) r ≡ Some id → find_in (new_server r m o) id ≡ Some o
+  new_found_at : (m : ObjectMap D) (id : ℕ) (o : Object D) (r : Option ℕ) → first_vacant m.server_objects.places m.server_objects.len ≡ r → option_map (λ i. i + limit) r ≡ Some id → find_in (new_server r m o) id ≡ Some o
   new_found_at m id o (Some i) e q =
-      let w = vacant_within m.server_objects m.server_len i e in
+      let w = vacant_within m.server_objects.places m.server_objects.len i e in
       let k : i + limit ≡ id = cc in
       let p : id - limit ≡ i = omega arith in
-      let f : at (set m.server_objects i (Some o)) (id - limit) ≡ Some o
-      = ap (at (set m.server_objects i (Some o))) p ∙ at_set_same m.server_objects i (Some o) w in
+      let f : at (set m.server_objects.places i (Some o)) (id - limit) ≡ Some o
+      = ap (at (set m.server_objects.places i (Some o))) p ∙ at_set_same m.server_objects.places i (Some o) w in
       grind (arith, nat_tests)
   new_found_at m id o None e q = let z : ◌≡◌ {A = ℕ} 0 1 = cc in absurd (omega arith)
 
@@ -78,29 +78,29 @@ module _ {D : Type 0} where
   pub new_half : (m : ObjectMap D) (id : ℕ) → new_answer m ≡ Some id → limit ≤ id
   new_half m id e = new_half_at id _ e
 
-  new_vacant_at : (m : ObjectMap D) (id : ℕ) → Used m → (r : Option ℕ) → first_vacant m.server_objects m.server_len ≡ r → option_map (λ i. i + limit) r ≡ Some id → find_in m id ≡ None
+  new_vacant_at : (m : ObjectMap D) (id : ℕ) → Used m → (r : Option ℕ) → first_vacant m.server_objects.places m.server_objects.len ≡ r → option_map (λ i. i + limit) r ≡ Some id → find_in m id ≡ None
   new_vacant_at m id u (Some i) e q =
-      let v = new_vacant m.server_objects m.server_len i u.1 e in
+      let v = new_vacant m.server_objects.places m.server_objects.len i u.1 e in
       let k : i + limit ≡ id = cc in grind (arith, nat_tests)
   new_vacant_at m id u None e q = let z : ◌≡◌ {A = ℕ} 0 1 = cc in absurd (omega arith)
 
   pub vacant_new : (m : ObjectMap D) (id : ℕ) → Used m → new_answer m ≡ Some id → find_in m id ≡ None
   vacant_new m id u e = new_vacant_at m id u _ refl e
 
-  new_lowest_at : (m : ObjectMap D) (id k : ℕ) (r : Option ℕ) → first_vacant m.server_objects m.server_len ≡ r → option_map (λ i. i + limit) r ≡ Some id → limit ≤ k → k < id → is_some (find_in m k) ≡ true
+  new_lowest_at : (m : ObjectMap D) (id k : ℕ) (r : Option ℕ) → first_vacant m.server_objects.places m.server_objects.len ≡ r → option_map (λ i. i + limit) r ≡ Some id → limit ≤ k → k < id → is_some (find_in m k) ≡ true
   new_lowest_at m id k (Some i) e q a b =
       let s : i + limit ≡ id = cc in
-      let l = vacant_least m.server_objects m.server_len i (k - limit) e (omega arith) in
+      let l = vacant_least m.server_objects.places m.server_objects.len i (k - limit) e (omega arith) in
       grind (arith, nat_tests)
   new_lowest_at m id k None e q a b = let z : ◌≡◌ {A = ℕ} 0 1 = cc in absurd (omega arith)
 
   pub new_lowest : (m : ObjectMap D) (id k : ℕ) → new_answer m ≡ Some id → limit ≤ k → k < id → is_some (find_in m k) ≡ true
   new_lowest m id k e a b = new_lowest_at m id k _ refl e a b
 
-  new_full_at : (m : ObjectMap D) (k : ℕ) → Sized m → (r : Option ℕ) → first_vacant m.server_objects m.server_len ≡ r → option_map (λ i. i + limit) r ≡ None → limit ≤ k → k < limit + server_places → is_some (find_in m k) ≡ true
+  new_full_at : (m : ObjectMap D) (k : ℕ) → Sized m → (r : Option ℕ) → first_vacant m.server_objects.places m.server_objects.len ≡ r → option_map (λ i. i + limit) r ≡ None → limit ≤ k → k < limit + server_places → is_some (find_in m k) ≡ true
   new_full_at m k z (Some i) e q a b = let y : ◌≡◌ {A = ℕ} 0 1 = cc in absurd (omega arith)
   new_full_at m k z None e q a b =
-      let l = (vacant_nowhere m.server_objects m.server_len e).1 (k - limit) (omega (arith, z.1)) in
+      let l = (vacant_nowhere m.server_objects.places m.server_objects.len e).1 (k - limit) (omega (arith, z.1)) in
       grind (arith, nat_tests)
 
   pub new_full : (m : ObjectMap D) (k : ℕ) → Sized m → new_answer m ≡ None → limit ≤ k → k < limit + server_places → is_some (find_in m k) ≡ true

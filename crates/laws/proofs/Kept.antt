@@ -1,15 +1,17 @@
 -- What every operation keeps: the capacities, that no place above a length is used, and that no length falls.
-use Rattle.std.proofs.Common.{◌≡◌, ℕ, ◌-◌, ◌≤◌, Bool, true, false, cond, eqb, ltb, set, is_some, Some, None, Ok, Err, Option, Result, refl, ◌∙◌, arith, length-set}
-use Rattle.places.specs.Places.{at, grown, first_vacant}
+use Rattle.std.proofs.Common.{◌≡◌, ℕ, ◌-◌, ◌≤◌, Bool, true, false, cond, eqb, ltb, length, is_some, Some, None, Ok, Err, Option, Result, refl, ◌∙◌, arith, length-set}
+use Rattle.places.specs.declared.table.Table.{Table}
+use Rattle.places.specs.Places.{at, first_vacant}
+use Rattle.places.specs.Tables.{entered_at, entered_in, replaced}
 use Rattle.places.specs.Laws.{Counted}
 use Rattle.places.proofs.Entries.{set_counted, put_counted, grown_above, named_capacity, named_counted, named_length}
 use Rattle.map.specs.declared.DataMark.{DataMark}
-use Rattle.map.specs.declared.InvalidId.{InvalidId}
+use Rattle.map.specs.declared.fault.InvalidId.{InvalidId}
 use Rattle.map.specs.declared.LocalId.{LocalId}
 use Rattle.map.specs.declared.Object.{Object}
 use Rattle.map.specs.declared.ObjectData.{ObjectData}
 use Rattle.map.specs.declared.ObjectMap.{ObjectMap}
-use Rattle.map.specs.Map.{limit, find_in, with_client, with_server, put_client, put_server, put_at, with_data, data_over, data_after, enter_client, enter_server, inserted, new_server, new_after}
+use Rattle.map.specs.Map.{limit, client_places, server_places, find_in, with_client, with_server, put_at, with_data, data_over, data_after, inserted, new_after}
 use Rattle.map.specs.Named.{lookup_in, with_mark, mark_over, mark_after}
 use Rattle.laws.specs.Sizes.{Sized, Used, NotBelow}
 use Rattle.laws.specs.LengthLaws.{LengthLaws}
@@ -26,65 +28,52 @@ either : {A : Type 0} (P : A → Type 0) (b : Bool) (x y : A) → (b ≡ true �
 either P true x y f h = f refl
 either P false x y f h = h
 
+-- what an operation keeps of a table, in the table after it
+record KeptTable {T : Type 0} {n : ℕ} (t u : Table T n) : Type 0 where
+  capacity : length u.places ≡ length t.places
+  counted : Counted t.places t.len → Counted u.places u.len
+  rises : t.len ≤ u.len
+
+module _ {T : Type 0} {n : ℕ} where
+  replaced_kept : (t : Table T n) (i : ℕ) (o : Option T) → KeptTable t (replaced t i o)
+  replaced_kept t i o =
+      either (KeptTable t) (is_some (at t.places i)) _ _
+      (λ e. record { capacity = length-set t.places i o; counted = put_counted t.places t.len i o e; rises = omega arith })
+      (record { capacity = refl; counted = λ c. c; rises = omega arith })
+
+  entered_at_kept : (t : Table T n) (i : ℕ) (x : T) → KeptTable t (entered_at t i x)
+  entered_at_kept t i x =
+      record { capacity = named_capacity t.places t.len i x; counted = named_counted t.places t.len i x; rises = named_length t.places t.len i }
+
+  entered_in_kept : (r : Option ℕ) (t : Table T n) (x : T) → KeptTable t (entered_in r t x)
+  entered_in_kept (Some i) t x =
+      record { capacity = length-set t.places i (Some x); counted = set_counted t.places t.len i x; rises = (grown_above t.len i).0 }
+  entered_in_kept None t x = record { capacity = refl; counted = λ c. c; rises = omega arith }
+
 module _ {D : Type 0} where
   same : (m : ObjectMap D) → Kept m m
   same m = record { sized = λ z. z; used = λ u. u; lengths = (omega arith, omega arith) }
 
-  client_set : (m : ObjectMap D) (i : ℕ) (o : Option (Object D)) (len : ℕ) → m.client_len ≤ len → (Counted m.client_objects m.client_len → Counted (set m.client_objects i o) len) → Kept m (with_client m i o len)
-  client_set m i o len h c =
-      record { sized = λ z. (length-set m.client_objects i o ∙ z.0, z.1); used = λ u. (c u.0, u.1); lengths = (h, omega arith) }
+  in_client : (m : ObjectMap D) (t : Table (Object D) client_places) → KeptTable m.client_objects t → Kept m (with_client m t)
+  in_client m t k =
+      record { sized = λ z. (k.capacity ∙ z.0, z.1); used = λ u. (k.counted u.0, u.1); lengths = (k.rises, omega arith) }
 
-  server_set : (m : ObjectMap D) (i : ℕ) (o : Option (Object D)) (len : ℕ) → m.server_len ≤ len → (Counted m.server_objects m.server_len → Counted (set m.server_objects i o) len) → Kept m (with_server m i o len)
-  server_set m i o len h c =
-      record { sized = λ z. (z.0, length-set m.server_objects i o ∙ z.1); used = λ u. (u.0, c u.1); lengths = (omega arith, h) }
-
-  client_put : (m : ObjectMap D) (i : ℕ) (o : Option (Object D)) → Kept m (put_client m i o)
-  client_put m i o =
-      either (Kept m) (is_some (at m.client_objects i)) _ _
-      (λ e. client_set m i o m.client_len (omega arith) (put_counted m.client_objects m.client_len i o e)) (same m)
-
-  server_put : (m : ObjectMap D) (i : ℕ) (o : Option (Object D)) → Kept m (put_server m i o)
-  server_put m i o =
-      either (Kept m) (is_some (at m.server_objects i)) _ _
-      (λ e. server_set m i o m.server_len (omega arith) (put_counted m.server_objects m.server_len i o e)) (same m)
+  in_server : (m : ObjectMap D) (t : Table (Object D) server_places) → KeptTable m.server_objects t → Kept m (with_server m t)
+  in_server m t k =
+      record { sized = λ z. (z.0, k.capacity ∙ z.1); used = λ u. (u.0, k.counted u.1); lengths = (omega arith, k.rises) }
 
   put : (m : ObjectMap D) (id : ℕ) (o : Option (Object D)) → Kept m (put_at m id o)
   put m id o =
       either (Kept m) (eqb id 0) _ _ (λ e. same m)
-      (either (Kept m) (ltb id limit) _ _ (λ e. client_put m (id - 1) o) (server_put m (id - limit) o))
-
-  insert_client : (m : ObjectMap D) (i : ℕ) (o : Object D) → Kept m (enter_client m i o)
-  insert_client m i o =
-      let xs = m.client_objects in
-      let len = m.client_len in
-      record {
-        sized = λ z. (named_capacity xs len i o ∙ z.0, z.1);
-        used = λ u. (named_counted xs len i o u.0, u.1);
-        lengths = (named_length xs len i, omega arith);
-      }
-
-  insert_server : (m : ObjectMap D) (i : ℕ) (o : Object D) → Kept m (enter_server m i o)
-  insert_server m i o =
-      let xs = m.server_objects in
-      let len = m.server_len in
-      record {
-        sized = λ z. (z.0, named_capacity xs len i o ∙ z.1);
-        used = λ u. (u.0, named_counted xs len i o u.1);
-        lengths = (omega arith, named_length xs len i);
-      }
+      (either (Kept m) (ltb id limit) _ _ (λ e. in_client m _ (replaced_kept m.client_objects (id - 1) o)) (in_server m _ (replaced_kept m.server_objects (id - limit) o)))
 
   insert : (m : ObjectMap D) (id : ℕ) (o : Object D) → Kept m (inserted m id o)
   insert m id o =
       either (Kept m) (eqb id 0) _ _ (λ e. same m)
-      (either (Kept m) (ltb id limit) _ _ (λ e. insert_client m (id - 1) o) (insert_server m (id - limit) o))
-
-  new_server_lem : (r : Option ℕ) (m : ObjectMap D) (o : Object D) → Kept m (new_server r m o)
-  new_server_lem (Some i) m o =
-      server_set m i (Some o) (grown m.server_len i) (grown_above m.server_len i).0 (set_counted m.server_objects m.server_len i o)
-  new_server_lem None m o = same m
+      (either (Kept m) (ltb id limit) _ _ (λ e. in_client m _ (entered_at_kept m.client_objects (id - 1) o)) (in_server m _ (entered_at_kept m.server_objects (id - limit) o)))
 
   insert_new : (m : ObjectMap D) (o : Object D) → Kept m (new_after m o)
-  insert_new m o = new_server_lem (first_vacant m.server_objects m.server_len) m o
+  insert_new m o = in_server m _ (entered_in_kept (first_vacant m.server_objects.places m.server_objects.len) m.server_objects o)
 
   data_over_lem : (f : Option (Object D)) (m : ObjectMap D) (id : ℕ) (d : D) → Kept m (data_over f m id d)
   data_over_lem None m id d = same m

@@ -21,8 +21,8 @@ module _ {D : Type 0} (m : ObjectMap D) (z : Sized m) where
       ⊎_elim
       (λ h. (positive, omega arith))
       (λ h.
-      let s : is_some (at m.server_objects (k - limit)) ≡ true = grind (arith, nat_tests) in
-      let w = occupied_within m.server_objects (k - limit) s in
+      let s : is_some (at m.server_objects.places (k - limit)) ≡ true = grind (arith, nat_tests) in
+      let w = occupied_within m.server_objects.places (k - limit) s in
       (positive, omega (arith, z.1)))
       (cases_lt k limit)
     where

@@ -1,6 +1,6 @@
 -- Worked cases of an entry at an id: at a map that holds only the id 1, and at one whose client's half was used up.
 use Rattle.std.specs.Prelude.{◌≡◌, Some, Ok, Err}
-use Rattle.map.specs.declared.MapFault.TheVariants.{Zero, Beyond, Taken, Full}
+use Rattle.map.specs.declared.fault.MapFault.TheVariants.{Zero, Beyond, Taken, Full}
 use Rattle.map.specs.declared.Object.{Object}
 use Rattle.map.specs.declared.ObjectMap.{ObjectMap}
 use Rattle.map.specs.Map.{client_places, empty_map, find_in, insert_answer, inserted}
@@ -24,6 +24,6 @@ pub record Cases (D : Type 0) : Type 0 where
   -- 1 names an object
   pub one_taken : (o : Object D) → insert_answer (only_one o) 1 ≡ Err Taken
   -- with all 64 places of the client's half used before, 65 is full, whatever is vacant below
-  pub last_full : (m : ObjectMap D) → Sized m → m.client_len ≡ client_places → insert_answer m 65 ≡ Err Full
+  pub last_full : (m : ObjectMap D) → Sized m → m.client_objects.len ≡ client_places → insert_answer m 65 ≡ Err Full
   -- and 66 is beyond
-  pub past_beyond : (m : ObjectMap D) → Sized m → m.client_len ≡ client_places → insert_answer m 66 ≡ Err Beyond
+  pub past_beyond : (m : ObjectMap D) → Sized m → m.client_objects.len ≡ client_places → insert_answer m 66 ≡ Err Beyond

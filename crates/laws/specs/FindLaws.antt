@@ -1,6 +1,6 @@
 -- What an id names after each operation, at the same and at another id.
 use Rattle.std.specs.Prelude.{◌≡◌, ℕ, ◌+◌, ◌<◌, ◌≤◌, true, ◌≢◌, is_some, Some, None, Ok, Err}
-use Rattle.map.specs.declared.MapFault.{MapFault}
+use Rattle.map.specs.declared.fault.MapFault.{MapFault}
 use Rattle.map.specs.declared.Object.{Object}
 use Rattle.map.specs.declared.ObjectMap.{ObjectMap}
 use Rattle.map.specs.Map.{limit, server_places, empty_map, find_in, removed, with_data, invalid, data_answer, data_after, insert_answer, inserted, new_answer, new_after}

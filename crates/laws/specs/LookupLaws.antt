@@ -1,7 +1,7 @@
 -- When a name names an object, and that a name whose id has been used anew names nothing.
 use Rattle.std.specs.Prelude.{◌≡◌, ℕ, ◌≢◌, Some, Ok, Err}
 use Rattle.map.specs.declared.DataMark.{DataMark}
-use Rattle.map.specs.declared.InvalidId.{InvalidId}
+use Rattle.map.specs.declared.fault.InvalidId.{InvalidId}
 use Rattle.map.specs.declared.LocalId.{LocalId}
 use Rattle.map.specs.declared.Object.{Object}
 use Rattle.map.specs.declared.ObjectData.{ObjectData}

@@ -1,2 +1,3 @@
 pub mod Map
 pub mod Named
+pub mod Texts

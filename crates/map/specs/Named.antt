@@ -1,7 +1,7 @@
 -- Objects by name: an id, the serial and the interface row that the object must have.
 use Rattle.std.specs.Prelude.{cond, ◌&&◌, Some, None, Ok, Err, Option, Result, ◌==◌}
 use Rattle.map.specs.declared.DataMark.{DataMark}
-use Rattle.map.specs.declared.InvalidId.{InvalidId}
+use Rattle.map.specs.declared.fault.InvalidId.{InvalidId}
 use Rattle.map.specs.declared.LocalId.{LocalId}
 use Rattle.map.specs.declared.Object.{Object}
 use Rattle.map.specs.declared.ObjectData.{ObjectData}

@@ -10,10 +10,9 @@ impl ObjectMap<ObjectData> {
     pub fn lookup(&self, name: LocalId) -> Result<Object<ObjectData>, InvalidId>
         ensures { result ≡ lookup_in self.now name }
     {
-        match self.find(name.id) {
-            Some(found) if found.data.serial == name.serial && found.row == name.row => Ok(found),
-            _ => Err(InvalidId),
-        }
+        self.find(name.id)
+            .filter(|found| found.data.serial == name.serial && found.row == name.row)
+            .ok_or(InvalidId)
     }
 
     /// Sets the mark of the object that a name names, and keeps its serial, row and version.
@@ -23,8 +22,8 @@ impl ObjectMap<ObjectData> {
     {
         let object = self.lookup(name)?;
         let data = ObjectData {
-            serial: object.data.serial,
             mark,
+            ..object.data
         };
         self.put(name.id, Some(Object { data, ..object }));
         Ok(())

@@ -1,12 +1,10 @@
 //! The memory of a queue wire: 3 places with 2 request cells and 4 event cells each.
 
-use crate::exchange::{blank_event, request};
+use crate::exchange::request;
 use message::Event;
 use queue::Mark;
 use std::alloc::{AllocError, Global};
-use wire::queued::{QueueWire, Request};
-
-const EMPTY: Mark = Mark { head: 0, count: 0 };
+use wire::queued::{Lent, QueueWire, Request};
 
 /// What a queue wire borrows, and the request that is put on it.
 #[derive(Drop)]
@@ -26,9 +24,9 @@ impl<'b> Memory<'b> {
         Ok(Memory {
             request,
             requests: vec![in heap; request; 6]?,
-            waiting: vec![in heap; EMPTY; 3]?,
-            events: vec![in heap; blank_event(); 12]?,
-            taken: vec![in heap; EMPTY; 3]?,
+            waiting: vec![in heap; Mark::new(); 3]?,
+            events: vec![in heap; Event::new(0, 0); 12]?,
+            taken: vec![in heap; Mark::new(); 3]?,
             broken: vec![in heap; true; 3]?,
         })
     }
@@ -36,13 +34,13 @@ impl<'b> Memory<'b> {
     /// A wire with that request at place 1, which is broken behind it.
     pub fn wire(&mut self) -> QueueWire<'_, 'b> {
         let request = self.request;
-        let mut wire = QueueWire::new(
-            &mut self.requests,
-            &mut self.waiting,
-            &mut self.events,
-            &mut self.taken,
-            &mut self.broken,
-        );
+        let mut wire = QueueWire::new(Lent {
+            requests: &mut self.requests,
+            waiting: &mut self.waiting,
+            events: &mut self.events,
+            taken: &mut self.taken,
+            broken: &mut self.broken,
+        });
         let _ = wire.put(1, request);
         let _ = wire.set_broken(1);
         wire

@@ -1,10 +1,10 @@
 -- What an event means, and which events a wire takes.
-use Rattle.std.specs.Prelude.{ℕ, ◌+◌, ◌-◌, Bool, true, ◌&&◌, List, [], ◌∷◌, length, Some, None, Option, nat_le, nat_lt}
+use Rattle.std.specs.Prelude.{ℕ, ◌+◌, Bool, true, ◌&&◌, List, [], ◌∷◌, length, replicate, Some, None, Option, nat_le, nat_lt}
 use Rattle.protocol.specs.Tallies.{all}
 use Rattle.protocol.specs.declared.argument.Argument.{Argument}
 use Rattle.protocol.specs.declared.argument.Argument.TheVariants.{Int, Uint, Fixed, Str, Object, NewId, Array, Fd}
 use Rattle.message.specs.declared.event.Event.{Event}
-use Rattle.message.specs.Meaning.{meanings}
+use Rattle.message.specs.Meaning.{meanings, no_arguments}
 
 -- an event: its sender's id, its opcode, and its arguments with their bytes
 pub record EventModel : Type 0 where
@@ -14,6 +14,10 @@ pub record EventModel : Type 0 where
 
 abbrev pub event_of : Event → EventModel
 event_of e = record { sender = e.sender; opcode = e.opcode; arguments = meanings e.bytes e.message }
+
+-- an event with no arguments
+abbrev pub bare : ℕ → ℕ → Event
+bare sender opcode = record { sender = sender; opcode = opcode; message = no_arguments; bytes = replicate 256 0 }
 
 abbrev text_weight : Option (List ℕ) → ℕ
 text_weight None = 0
@@ -53,8 +57,3 @@ total (a ∷ more) = weight a + total more
 -- a wire takes an event whose texts and arrays have at most 256 bytes together, and no zero in a text
 abbrev pub sendable : EventModel → Bool
 sendable e = nat_le (total e.arguments) 256 && all clean e.arguments
-
--- the same, argument by argument, with the room that is left
-abbrev pub fits : ℕ → List (Argument ℕ (List ℕ)) → Bool
-fits room [] = true
-fits room (a ∷ more) = nat_le (weight a) room && (clean a && fits (room - weight a) more)

@@ -1,5 +1,5 @@
 -- What the arguments of a message mean beside a body.
-use Rattle.std.specs.Prelude.{ℕ, List, ◌++◌, map, length, take, drop}
+use Rattle.std.specs.Prelude.{ℕ, List, ◌++◌, map, length, take, drop, replicate}
 use Rattle.std.specs.Option.{option_map}
 use Rattle.protocol.specs.declared.argument.Argument.{Argument}
 use Rattle.protocol.specs.declared.argument.Argument.TheVariants.{Int, Uint, Fixed, Str, Object, NewId, Array, Fd}
@@ -32,6 +32,10 @@ said m = take m.count m.arguments
 -- what they say, in order
 abbrev pub meanings : List ℕ → Message → List (Argument ℕ (List ℕ))
 meanings body m = map (meaning body) (said m)
+
+-- no arguments
+abbrev pub no_arguments : Message
+no_arguments = record { count = 0; arguments = replicate 8 (Uint 0) }
 
 -- items laid at the front of a buffer, as many as it can hold; past them it is as it was
 abbrev pub overlaid : {X : Type 0} → List X → List X → List X

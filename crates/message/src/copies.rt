@@ -7,11 +7,6 @@ ghost use Rattle.message.specs.Meaning.{overlaid};
 pub fn lay<T: Copy>(items: &[T], buffer: &mut [T])
     ensures { buffer.new ≡ overlaid items.now buffer.old }
 {
-    let count = items.len();
-    let room = buffer.len();
-    if count <= room {
-        buffer[0..count].copy_from_slice(items);
-    } else {
-        buffer.copy_from_slice(&items[0..room]);
-    }
+    let count = items.len().min(buffer.len());
+    buffer[..count].copy_from_slice(&items[..count]);
 }

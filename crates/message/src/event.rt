@@ -1,18 +1,18 @@
 //! Events, and which of them a wire takes.
 
-ghost use Rattle.std.specs.Prelude.{◌≡◌, map};
-ghost use Rattle.message.specs.Events.{event_of, sendable, fits, weight as weight_of, clean as clean_of};
+ghost use Rattle.std.specs.Prelude.{◌≡◌, ◌≤◌, length, map};
+ghost use Rattle.protocol.specs.Tallies.{all};
+ghost use Rattle.message.specs.Events.{event_of, bare, sendable, total as total_of, weight as weight_of, clean as clean_of};
 ghost use Rattle.message.specs.Meaning.{meaning};
 
 use crate::{Message, Part, bytes_of};
 use protocol::argument::Argument;
-use protocol::checks::{NotZero, all_pass};
 
 /// The most bytes of texts and arrays in an event.
 pub const EVENT_BYTES: usize = 256;
 
 /// An event. Its size is fixed, so that a wire can keep it in memory that was lent beforehand.
-#[derive(Clone, Copy)]
+#[derive(Clone, Copy, Debug, PartialEq, Eq)]
 pub struct Event {
     pub sender: u32,
     pub opcode: u16,
@@ -22,36 +22,51 @@ pub struct Event {
 }
 
 impl Event {
+    /// An event with no arguments.
+    pub fn new(sender: u32, opcode: u16) -> Event
+        ensures { result ≡ bare sender opcode }
+    {
+        Event {
+            sender,
+            opcode,
+            message: Message::new(),
+            bytes: [0; EVENT_BYTES],
+        }
+    }
+
     /// Whether a wire takes the event where its allowance lasts: its texts and arrays have at most 256 bytes together, and no
     /// text holds a zero.
     pub fn is_sendable(&self) -> bool
         ensures { result ≡ sendable (event_of self.now) }
     {
-        arguments_fit(self.message.as_slice(), &self.bytes)
+        let arguments = self.message.as_slice();
+        total(arguments, &self.bytes) <= EVENT_BYTES && are_clean(arguments, &self.bytes)
     }
 }
 
-// Whether there is room for the bytes of one argument after the other, and no text holds a zero.
-fn arguments_fit(arguments: &[Argument<u32, Part>], bytes: &[u8]) -> bool
-    ensures { result ≡ fits 256 (map (meaning bytes.now) arguments.now) }
+// How many bytes the arguments have together.
+fn total(arguments: &[Argument<u32, Part>], bytes: &[u8]) -> usize
+    requires few { length arguments.now ≤ 8 }
+    requires short { length bytes.now ≤ 256 }
+    ensures { result ≡ total_of (map (meaning bytes.now) arguments.now) }
 {
-    let mut room = EVENT_BYTES;
-    for argument in arguments {
-        let weight = weight(*argument, bytes);
-        if weight > room {
-            return false;
-        }
-        if !is_clean(*argument, bytes) {
-            return false;
-        }
-        room -= weight;
-    }
-    true
+    arguments
+        .iter()
+        .map(|argument| weight(*argument, bytes))
+        .sum()
+}
+
+// Whether no argument is a text with a zero.
+fn are_clean(arguments: &[Argument<u32, Part>], bytes: &[u8]) -> bool
+    ensures { result ≡ all clean_of (map (meaning bytes.now) arguments.now) }
+{
+    arguments.iter().all(|argument| is_clean(*argument, bytes))
 }
 
 // How many bytes an argument has.
 fn weight(argument: Argument<u32, Part>, bytes: &[u8]) -> usize
-    ensures { result ≡ weight_of (meaning bytes.now argument) }
+    ensures value { result ≡ weight_of (meaning bytes.now argument) }
+    ensures within { result ≤ length bytes.now }
 {
     match argument {
         Argument::Str(Some(part)) => bytes_of(bytes, part).len(),
@@ -65,7 +80,7 @@ fn is_clean(argument: Argument<u32, Part>, bytes: &[u8]) -> bool
     ensures { result ≡ clean_of (meaning bytes.now argument) }
 {
     match argument {
-        Argument::Str(Some(part)) => all_pass(bytes_of(bytes, part), &NotZero {}),
+        Argument::Str(Some(part)) => bytes_of(bytes, part).iter().all(|byte| *byte > 0),
         _ => true,
     }
 }

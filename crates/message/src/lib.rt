@@ -9,11 +9,12 @@ mod event;
 mod part;
 mod reader;
 
-ghost use Rattle.message.specs.Meaning.{said, overlaid};
-ghost use Rattle.std.specs.Prelude.{◌≡◌, length, take};
+ghost use Rattle.message.specs.Meaning.{said, overlaid, no_arguments};
+ghost use Rattle.std.specs.Prelude.{◌≡◌, length};
 
 pub use copies::lay;
 pub use event::{EVENT_BYTES, Event};
+use part::front_of;
 pub use part::{Part, bytes_of};
 use protocol::argument::Argument;
 pub use reader::{Reader, reader_laws};
@@ -22,18 +23,30 @@ pub use reader::{Reader, reader_laws};
 pub const ARGUMENTS: usize = 8;
 
 /// The first `count` arguments, of at most eight; texts and arrays are parts of a body that is kept beside them.
-#[derive(Clone, Copy)]
+///
+/// An array with its count, and no `Vec`: a wire's cells are lent memory, and nothing that goes over it allocates.
+#[derive(Clone, Copy, Debug, PartialEq, Eq)]
 pub struct Message {
     pub count: usize,
     pub arguments: [Argument<u32, Part>; ARGUMENTS],
 }
 
 impl Message {
+    /// No arguments.
+    pub fn new() -> Message
+        ensures { result ≡ no_arguments }
+    {
+        Message {
+            count: 0,
+            arguments: [Argument::Uint(0); ARGUMENTS],
+        }
+    }
+
     /// The arguments that count.
     pub fn as_slice(&self) -> &[Argument<u32, Part>]
         ensures { result.now ≡ said self.now }
     {
-        first_of(&self.arguments, self.count)
+        front_of(&self.arguments, self.count)
     }
 
     /// Takes over other arguments; those past their count stay as they are.
@@ -42,16 +55,5 @@ impl Message {
     {
         lay(arguments, &mut self.arguments);
         self.count = arguments.len();
-    }
-}
-
-// At most so many arguments, from the first on.
-fn first_of(arguments: &[Argument<u32, Part>], count: usize) -> &[Argument<u32, Part>]
-    ensures { result.now ≡ take count arguments.now }
-{
-    if arguments.len() <= count {
-        arguments
-    } else {
-        &arguments[0..count]
     }
 }

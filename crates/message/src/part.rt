@@ -4,7 +4,7 @@ ghost use Rattle.std.specs.Prelude.{◌≡◌, take, drop};
 ghost use Rattle.message.specs.Meaning.{part_in};
 
 /// Where a text or an array lies in a body.
-#[derive(Clone, Copy)]
+#[derive(Clone, Copy, Debug, PartialEq, Eq)]
 pub struct Part {
     pub start: usize,
     pub len: usize,
@@ -17,24 +17,16 @@ pub fn bytes_of(body: &[u8], part: Part) -> &[u8]
     front_of(rest_of(body, part.start), part.len)
 }
 
-// At most so many bytes, from the first on.
-fn front_of(whole: &[u8], most: usize) -> &[u8]
-    ensures { result.now ≡ take most whole.now }
+/// At most so many items, from the first on.
+pub(crate) fn front_of<T>(items: &[T], most: usize) -> &[T]
+    ensures { result.now ≡ take most items.now }
 {
-    if whole.len() <= most {
-        whole
-    } else {
-        &whole[0..most]
-    }
+    &items[..most.min(items.len())]
 }
 
-// The bytes from an index on.
+// The items from an index on.
 fn rest_of(whole: &[u8], start: usize) -> &[u8]
     ensures { result.now ≡ drop start whole.now }
 {
-    if start <= whole.len() {
-        &whole[start..]
-    } else {
-        &whole[0..0]
-    }
+    &whole[start.min(whole.len())..]
 }

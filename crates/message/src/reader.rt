@@ -1,8 +1,7 @@
 //! Reads the arguments of a message, one after the other.
 
-ghost use Rattle.std.specs.Prelude.{◌≡◌, ◌<◌, take, drop, OnSome};
-ghost use Rattle.std.specs.Option.{option_map};
-ghost use Rattle.std.specs.List.{slice_get};
+ghost use Rattle.std.specs.Prelude.{◌≡◌};
+ghost use Rattle.std.specs.Iterator.{YieldsFirstBy, item_count};
 ghost use Rattle.message.specs.Meaning.{meaning, meanings};
 ghost use Rattle.message.specs.Reading.{left, borrowed, ReaderLaws};
 
@@ -10,7 +9,7 @@ use crate::{Message, Part, bytes_of};
 use protocol::argument::Argument;
 
 /// What is left of a message to read. Texts and arrays come out as parts of the body that it holds.
-#[derive(Clone, Copy)]
+#[derive(Clone, Copy, Debug, PartialEq, Eq)]
 pub struct Reader<'a> {
     message: Message,
     body: &'a [u8],
@@ -28,34 +27,20 @@ impl<'a> Reader<'a> {
             index: 0,
         }
     }
-
-    /// The next argument; after the last there is none.
-    pub fn next(&mut self) -> Option<Argument<u32, &'a [u8]>>
-        ensures value { option_map borrowed result ≡ slice_get (left self.old) 0 }
-        ensures left { left self.new ≡ drop 1 (left self.old) }
-    {
-        let found = argument_at(&self.message.arguments, self.message.count, self.index);
-        let Some(argument) = found else {
-            return None;
-        };
-        self.index += 1;
-        Some(read_from(argument, self.body))
-    }
 }
 
-// The argument at an index below the count.
-fn argument_at(
-    arguments: &[Argument<u32, Part>],
-    count: usize,
-    index: usize,
-) -> Option<Argument<u32, Part>>
-    ensures below { OnSome result (index < count) }
-    ensures value { result ≡ slice_get (take count arguments.now) index }
-{
-    if index < count && index < arguments.len() {
-        Some(arguments[index])
-    } else {
-        None
+impl<'a> Iterator for Reader<'a> {
+    type Item = Argument<u32, &'a [u8]>;
+
+    ghost next_gives = { YieldsFirstBy borrowed left };
+
+    ghost remaining = { item_count left };
+
+    /// The next argument; after the last there is none.
+    fn next(&mut self) -> Option<Argument<u32, &'a [u8]>> {
+        let argument = self.message.as_slice().get(self.index).copied()?;
+        self.index += 1;
+        Some(read_from(argument, self.body))
     }
 }
 

@@ -1,5 +1,4 @@
-pub mod Lowest
-pub mod Occupied
+pub mod Positions
 pub mod Laws
 pub mod Search
 pub mod Vacant

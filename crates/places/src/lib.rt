@@ -1,11 +1,15 @@
 //! Tables of places: where a new record goes, and whether a record may be entered at a named place. Written once
-//! for every kind of record.
+//! for every kind of record, over lent places; [`Table`] is a table of its own places.
 
 #![tactic(auto)]
 
-ghost use Rattle.std.specs.Prelude.{◌≡◌, ◌<◌, ◌≤◌, T as Holds, length, is_some, IfSome, None, slice_set};
-ghost use Rattle.places.specs.Places.{at, first_vacant, entry_at, places_after, length_after, places_new, length_new, occupied_from};
+ghost use Rattle.std.specs.Prelude.{not, position, ◌≡◌, ◌<◌, ◌≤◌, T as Holds, length, is_some, IfSome, Some, None, slice_set};
+ghost use Rattle.places.specs.Places.{at, first_vacant, entry_at, grown, places_after, length_after, places_new, length_new, occupied_from};
 ghost use Rattle.places.specs.Laws.{TableLaws};
+
+mod table;
+
+pub use table::Table;
 
 /// Why a record was not entered at a named place.
 #[derive(Clone, Copy, PartialEq, Eq, Debug)]
@@ -22,13 +26,11 @@ pub enum PlaceFault {
 pub fn look_at<T: Copy>(places: &[Option<T>], index: usize) -> Option<T>
     ensures { result ≡ at places.now index }
 {
-    match places.get(index) {
-        Some(place) => *place,
-        None => None,
-    }
+    places.get(index).copied().flatten()
 }
 
 /// Fills or vacates a place; past the capacity nothing.
+// Written by index: what is left behind a `get_mut` in generic code is not known to the proof.
 pub fn put<T: Drop>(places: &mut [Option<T>], index: usize, place: Option<T>)
     ensures { places.new ≡ slice_set places.old index place }
 {
@@ -49,18 +51,28 @@ pub fn take<T: Drop>(places: &mut [Option<T>], index: usize) -> Option<T>
     }
 }
 
+// The first vacant place of some.
+fn vacant_among<T>(places: &[Option<T>]) -> Option<usize>
+    ensures answer { result ≡ position (λ place. not (is_some place)) places.now }
+    ensures within { IfSome result (λ i. i < length places.now) }
+{
+    places.iter().position(|place| place.is_none())
+}
+
+// The first occupied place of some.
+fn occupied_among<T>(places: &[Option<T>]) -> Option<usize>
+    ensures answer { result ≡ position (λ place. is_some place) places.now }
+    ensures within { IfSome result (λ i. i < length places.now) }
+{
+    places.iter().position(|place| place.is_some())
+}
+
 /// The place of a new record, or none where the table is full.
 pub fn first_vacant<T>(places: &[Option<T>], len: usize) -> Option<usize>
     ensures answer { result ≡ first_vacant places.now len }
     ensures within { IfSome result (λ i. (i < length places.now) × (i ≤ len)) }
 {
-    let used = len.min(places.len());
-    for i in 0..used {
-        if places[i].is_none() {
-            return Some(i);
-        }
-    }
-    if len < places.len() { Some(len) } else { None }
+    vacant_among(&places[..len.min(places.len())]).or_else(|| (len < places.len()).then_some(len))
 }
 
 /// Whether a record may be entered at a named place.
@@ -77,6 +89,16 @@ pub fn entry_at<T>(places: &[Option<T>], len: usize, index: usize) -> Result<(),
     }
 }
 
+// Enters a record at a place of the table.
+fn occupy<T: Drop>(places: &mut [Option<T>], len: &mut usize, index: usize, item: T)
+    requires { index < length places.old }
+    ensures places_after { places.new ≡ slice_set places.old index (Some item) }
+    ensures length_after { len.new ≡ grown len.old index }
+{
+    places[index] = Some(item);
+    *len = (*len).max(index + 1);
+}
+
 /// Enters a record at a named place, or leaves the table as it was.
 pub fn enter_at<T: Drop>(
     places: &mut [Option<T>],
@@ -89,10 +111,7 @@ pub fn enter_at<T: Drop>(
     ensures length_after { len.new ≡ length_after result len.old index }
 {
     entry_at(places, *len, index)?;
-    places[index] = Some(item);
-    if index >= *len {
-        *len = index + 1;
-    }
+    occupy(places, len, index, item);
     Ok(())
 }
 
@@ -104,10 +123,7 @@ pub fn enter_new<T: Drop>(places: &mut [Option<T>], len: &mut usize, item: T) ->
     ensures within { IfSome result (λ i. i < length places.old) }
 {
     let vacant = first_vacant(places, *len)?;
-    places[vacant] = Some(item);
-    if vacant >= *len {
-        *len = vacant + 1;
-    }
+    occupy(places, len, vacant, item);
     Some(vacant)
 }
 
@@ -116,12 +132,8 @@ pub fn first_occupied<T>(places: &[Option<T>], from: usize) -> Option<usize>
     ensures answer { result ≡ occupied_from places.now from }
     ensures within { IfSome result (λ i. i < length places.now) }
 {
-    for i in from..places.len() {
-        if places[i].is_some() {
-            return Some(i);
-        }
-    }
-    None
+    let passed = occupied_among(places.get(from..)?)?;
+    Some(from + passed)
 }
 
 /// Whether the table has the place, and it is occupied.
@@ -129,10 +141,7 @@ pub fn holds<T>(places: &[Option<T>], index: usize) -> bool
     ensures answer { result ≡ is_some (at places.now index) }
     ensures within { Holds result → index < length places.now }
 {
-    match places.get(index) {
-        Some(place) => place.is_some(),
-        None => false,
-    }
+    places.get(index).is_some_and(|place| place.is_some())
 }
 
 /// Every entry leaves its record where it says and nothing else changed, the length never falls, and the two searches

@@ -1,6 +1,6 @@
 -- A filling is refused exactly where it would break a law.
 use Rattle.std.proofs.Common.{◌≡◌, ℕ, ◌<◌, ◌≤◌, true, ◌&&◌, ltb, leb, ◌≢◌, List, length, take, set, Some, Ok, Err, Result, sym, ap, ◌∙◌, subst, ⊎_elim, arith, length-take}
-use Rattle.std.proofs.lemmas.List.{length-set}
+use Rattle.std.proofs.lemmas.List.{length-set, take-set-le}
 use Rattle.std.proofs.lemmas.Bool.{lt-ltb, le-ltb, ltb-true, leb-true, le-leb, lt-leb, cond-true, cond-false, and_parts, and_from, and_left, cases_eq, cases_Bool}
 use Rattle.std.specs.List.{slice_get}
 use Rattle.protocol.specs.declared.refusal.Refusal.{Refusal}
@@ -9,7 +9,7 @@ use Rattle.protocol.specs.Model.{RowModel}
 use Rattle.protocol.specs.Lawful.{Lawful, RowLaws, Makes, Fresh}
 use Rattle.protocol.specs.RowTests.{may_stand}
 use Rattle.protocol.specs.Filling.{fill_answer, FillLaws}
-use Rattle.protocol.specs.Joins.{nth_set_same, nth_set_other, take_set_past}
+use Rattle.protocol.specs.Joins.{nth_set_same, nth_set_other}
 use Rattle.protocol.specs.Lawfuls.{Stands, stands_words, stands_test}
 
 never : (e : Refusal) → ◌≡◌ {A = Result (Unit {0}) Refusal} (Err e) (Ok tt) → ⊥
@@ -64,7 +64,7 @@ module _ (rows : List RowModel) (number : ℕ) (row : RowModel) where
 
       taken_lawful : Lawful (set rows number row)
       taken_lawful = record {
-        begins = take_set_past 4 rows number row low ∙ law.begins;
+        begins = take-set-le 4 rows number row low ∙ law.begins;
         sound = λ i r h.
             subst (λ n. RowLaws n r) (sym (length-set rows number row)) (each (RowLaws (length rows)) i r stands.sound (law.sound i r) h);
         makes = λ i r ne h. each Makes i r stands.makes (law.makes i r ne) h;

@@ -1,4 +1,3 @@
 mod Agree
-mod Finds
-mod Refusals
+mod Counts
 mod FillLaws

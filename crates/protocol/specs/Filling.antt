@@ -1,10 +1,11 @@
 -- How a catalogue is made and filled.
-use Rattle.std.specs.Prelude.{◌≡◌, ℕ, ◌-◌, ◌<◌, ◌≤◌, Bool, cond, ◌&&◌, List, ◌++◌, map, length, replicate, Ok, Err, vec_items, MatchBool, Result, MatchResult, nat_le, nat_lt, slice_set}
+use Rattle.std.specs.Prelude.{◌≡◌, ℕ, ◌-◌, ◌<◌, ◌≤◌, Bool, cond, ◌&&◌, List, ◌++◌, map, length, replicate, Ok, Err, vec_items, MatchBool, codes, Result, MatchResult, nat_le, nat_lt, slice_set}
 use Rattle.protocol.specs.declared.refusal.Refusal.{Refusal}
 use Rattle.protocol.specs.declared.refusal.Refusal.TheVariants.{NoRow, BreaksLaw}
 use Rattle.protocol.specs.declared.filled.Filled.{Filled}
 use Rattle.protocol.specs.declared.fills.CatalogueError.{CatalogueError}
 use Rattle.protocol.specs.declared.fills.CatalogueError.TheVariants.{Refused, NoMemory}
+use Rattle.protocol.specs.Refusals.{text_of}
 use Rattle.protocol.specs.Model.{RowModel, meant_buf}
 use Rattle.protocol.specs.CoreRows.{core_rows, blank}
 use Rattle.protocol.specs.Lawful.{Lawful}
@@ -13,6 +14,11 @@ use Rattle.protocol.specs.RowTests.{may_stand}
 -- the rows of a filled catalogue: the core, then those that it keeps
 abbrev pub filled_rows : Filled → List RowModel
 filled_rows f = core_rows ++ map meant_buf (vec_items f.later)
+
+-- what an error of a new catalogue says
+abbrev pub catalogue_text_of : CatalogueError → List ℕ
+catalogue_text_of (Refused r) = text_of r
+catalogue_text_of NoMemory = codes "out of memory"
 
 -- a catalogue has 4 to 64 rows
 abbrev pub rows_allowed : ℕ → Bool

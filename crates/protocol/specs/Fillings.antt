@@ -1,13 +1,13 @@
 -- Filling, over what stands past the core.
-use Rattle.std.specs.Prelude.{◌≡◌, ℕ, zero, suc, ◌+◌, ◌<◌, ◌≤◌, Bool, true, false, ◌&&◌, List, [], ◌∷◌, ◌++◌, map, length, replicate, Ok, Err, nat_le, slice_set, refl}
-use Rattle.std.proofs.Common.{sym, ap, subst, ◌∙◌, arith, add-one}
-use Rattle.std.proofs.lemmas.List.{length-map, map-set, map-append}
-use Rattle.std.proofs.lemmas.Bool.{lt-ltb, le-ltb, cond-true, cond-false}
+use Rattle.std.specs.Prelude.{◌≡◌, ℕ, ◌+◌, ◌<◌, Bool, true, false, ◌&&◌, List, ◌++◌, map, length, Ok, Err, nat_le, slice_set}
+use Rattle.std.proofs.Common.{sym, ap, subst, ◌∙◌, arith}
+use Rattle.std.proofs.lemmas.List.{length-map, map-set}
+use Rattle.std.proofs.lemmas.Bool.{lt-ltb, cond-true, cond-false}
 use Rattle.protocol.specs.declared.interface.InterfaceBuf.{InterfaceBuf}
-use Rattle.protocol.specs.declared.refusal.Refusal.TheVariants.{NoRow, BreaksLaw}
+use Rattle.protocol.specs.declared.refusal.Refusal.TheVariants.{BreaksLaw}
 use Rattle.protocol.specs.Tallies.{all}
 use Rattle.protocol.specs.Model.{RowModel, meant_buf}
-use Rattle.protocol.specs.CoreRows.{core_rows, blank}
+use Rattle.protocol.specs.CoreRows.{core_rows}
 use Rattle.protocol.specs.RowTests.{may_stand}
 use Rattle.protocol.specs.Filling.{fill_answer}
 use Rattle.protocol.specs.Joins.{set_back}
@@ -17,9 +17,6 @@ pub rows_length : (later : List InterfaceBuf) (n : ℕ) → n ≡ length later �
 rows_length later n e = let l = length-map later meant_buf in omega arith
 
 module _ (rows : List RowModel) (n number : ℕ) (row : RowModel) (long : length rows ≡ n) where
-  pub no_row : n ≤ number → Err NoRow ≡ fill_answer rows number row
-  no_row h = sym (cond-false _ _ _ (le-ltb number (length rows) (omega arith)))
-
   pub breaks : number < n → (nat_le 4 number && may_stand n row) ≡ false → Err BreaksLaw ≡ fill_answer rows number row
   breaks h e =
       sym (cond-true _ _ _ (lt-ltb number (length rows) (omega arith))
@@ -37,16 +34,3 @@ module _ (later : List InterfaceBuf) (i : ℕ) (row : InterfaceBuf) where
   pub rows_set : (number : ℕ) → number ≡ 4 + i → core_rows ++ map meant_buf (slice_set later i row) ≡ slice_set (core_rows ++ map meant_buf later) number (meant_buf row)
   rows_set number e =
       ap (λ l. core_rows ++ l) (map-set meant_buf later i row) ∙ sym (set_back core_rows (map meant_buf later) number i (meant_buf row) e)
-
-replicate_back : {X : Type 0} (n : ℕ) (x : X) → replicate n x ++ (x ∷ []) ≡ x ∷ replicate n x
-replicate_back zero x = refl
-replicate_back (suc n) x = ap (λ l. x ∷ l) (replicate_back n x)
-
--- one blank row more
-pub blank_more : (rows : List InterfaceBuf) (row : InterfaceBuf) (i : ℕ) → meant_buf row ≡ blank → map meant_buf rows ≡ replicate i blank → map meant_buf (rows ++ (row ∷ [])) ≡ replicate (i + 1) blank
-blank_more rows row i e h =
-    map-append meant_buf rows (row ∷ [])
-    ∙ ap (λ l. l ++ (meant_buf row ∷ [])) h
-    ∙ ap (λ x. replicate i blank ++ (x ∷ [])) e
-    ∙ replicate_back i blank
-    ∙ ap (λ n. replicate n blank) (sym (add-one i))

@@ -1,5 +1,5 @@
 -- A list that follows another.
-use Rattle.std.specs.Prelude.{◌≡◌, ℕ, zero, suc, ◌+◌, ◌<◌, ◌≤◌, List, [], ◌∷◌, ◌++◌, length, take, Some, ◌≢◌, slice_set, refl}
+use Rattle.std.specs.Prelude.{◌≡◌, ℕ, zero, suc, ◌+◌, ◌<◌, List, [], ◌∷◌, ◌++◌, length, Some, ◌≢◌, slice_set, refl}
 use Rattle.std.proofs.Common.{ap, arith}
 use Rattle.std.specs.List.{slice_get}
 
@@ -30,12 +30,3 @@ nth_set_other (x ∷ xs) zero zero y h = absurd (h refl)
 nth_set_other (x ∷ xs) zero (suc j) y h = refl
 nth_set_other (x ∷ xs) (suc i) zero y h = refl
 nth_set_other (x ∷ xs) (suc i) (suc j) y h = nth_set_other xs i j y (λ e. h (ap suc e))
-
--- the front of a list, where an item past it is replaced
-pub take_set_past : {X : Type 0} (n : ℕ) (xs : List X) (i : ℕ) (y : X) → n ≤ i → take n (slice_set xs i y) ≡ take n xs
-take_set_past zero [] i y h = refl
-take_set_past (suc n) [] i y h = refl
-take_set_past zero (x ∷ xs) zero y h = refl
-take_set_past zero (x ∷ xs) (suc i) y h = refl
-take_set_past (suc n) (x ∷ xs) zero y h = absurd (omega arith)
-take_set_past (suc n) (x ∷ xs) (suc i) y h = ap (λ l. x ∷ l) (take_set_past n xs i y (omega arith))

@@ -105,6 +105,17 @@ same_type NewId b = is_new_id b
 same_type Array b = is_array b
 same_type Fd b = is_fd b
 
+-- a kind with null allowed, where it can be
+abbrev pub unmarked : ArgumentType → ArgumentType
+unmarked Int = Int
+unmarked Uint = Uint
+unmarked Fixed = Fixed
+unmarked (Str n) = Str Yes
+unmarked (Object n) = Object Yes
+unmarked NewId = NewId
+unmarked Array = Array
+unmarked Fd = Fd
+
 -- the kind that an argument has
 abbrev pub kind_of : {Id Bytes : Type 0} → Argument Id Bytes → ArgumentType
 kind_of (arg.Int x) = Int

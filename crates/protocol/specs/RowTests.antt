@@ -40,11 +40,6 @@ makes_named m = cond (count is_new_id m.kinds == 0) true (is_some m.child)
 abbrev pub is_fresh : List ℕ → Bool
 is_fresh name = all (λ r. not (bytes_eq r.name name)) core_rows
 
--- the row, if there is one, has another name
-abbrev pub differs : Option RowModel → List ℕ → Bool
-differs None name = true
-differs (Some r) name = not (bytes_eq r.name name)
-
 -- a row that may stand past the core in a catalogue of n rows
 abbrev pub may_stand : ℕ → RowModel → Bool
 may_stand n r = row_sound n r && (all makes_named r.requests && is_fresh r.name)

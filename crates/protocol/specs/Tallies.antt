@@ -1,10 +1,7 @@
 -- Tests over lists.
-use Rattle.std.specs.Prelude.{ℕ, ◌+◌, Bool, true, cond, ◌&&◌, List, [], ◌∷◌}
-
+use Rattle.std.specs.Prelude.{ℕ, ◌+◌, Bool, cond, List, [], ◌∷◌}
 -- every item passes the test f
-abbrev pub all : {X : Type 0} → (X → Bool) → List X → Bool
-all f [] = true
-all f (x ∷ xs) = f x && all f xs
+pub use Rattle.std.specs.List.{list_all as all}
 
 -- how many items pass the test f
 abbrev pub count : {X : Type 0} → (X → Bool) → List X → ℕ

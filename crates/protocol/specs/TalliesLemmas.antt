@@ -1,48 +1,15 @@
--- Loops that test every item, or count items, step by step; and what a test of every item says.
-use Rattle.std.specs.Prelude.{◌≡◌, ℕ, zero, suc, ◌+◌, ◌<◌, ◌≤◌, Bool, true, false, cond, ◌&&◌, List, [], ◌∷◌, ◌++◌, map, length, drop, replicate, Some, slice_index_or, slice_set, refl}
-use Rattle.std.proofs.Common.{sym, ap, ◌∙◌, arith}
-use Rattle.std.proofs.lemmas.List.{drop_more, drop_all}
+-- What a test of every item says.
+use Rattle.std.specs.Prelude.{◌≡◌, ℕ, zero, suc, Bool, true, List, [], ◌∷◌, replicate, Some, slice_set, refl}
+use Rattle.std.proofs.Common.{ap, ◌∙◌, arith}
 use Rattle.std.proofs.lemmas.Bool.{and_parts, and_from}
 use Rattle.std.specs.List.{slice_get}
-use Rattle.protocol.specs.Tallies.{all, count}
-
-module _ {X : Type 0} (f : X → Bool) (xs : List X) (i : ℕ) where
-  module _ (x : X) (inside : i < length xs) (is : x ≡ slice_index_or xs i x) where
-    all_turn : all f (drop i xs) ≡ (f x && all f (drop (i + 1) xs))
-    all_turn = ap (all f) (drop_more xs i x inside) ∙ ap (λ y. f y && all f (drop (i + 1) xs)) (sym is)
-
-    pub all_on : true ≡ f x → all f (drop i xs) ≡ all f xs → all f (drop (i + 1) xs) ≡ all f xs
-    all_on t inv = sym (all_turn ∙ ap (λ b. b && all f (drop (i + 1) xs)) (sym t)) ∙ inv
-
-    pub all_stop : false ≡ f x → all f (drop i xs) ≡ all f xs → false ≡ all f xs
-    all_stop t inv = sym (all_turn ∙ ap (λ b. b && all f (drop (i + 1) xs)) (sym t)) ∙ inv
-
-    -- one item more is counted, or not
-    pub count_on : (b : Bool) → b ≡ f x → count f (drop i xs) ≡ cond b 1 0 + count f (drop (i + 1) xs)
-    count_on b t =
-        ap (count f) (drop_more xs i x inside) ∙ ap (λ y. cond (f y) 1 0 + count f (drop (i + 1) xs)) (sym is)
-        ∙ ap (λ c. cond c 1 0 + count f (drop (i + 1) xs)) (sym t)
-
-  pub all_end : length xs ≤ i → all f (drop i xs) ≡ all f xs → true ≡ all f xs
-  all_end h inv = sym (ap (all f) (drop_all i xs h)) ∙ inv
-
-  pub count_end : (n whole : ℕ) → length xs ≤ i → n + count f (drop i xs) ≡ whole → n ≡ whole
-  count_end n whole h inv = let e : count f (drop i xs) ≡ 0 = ap (count f) (drop_all i xs h) in omega arith
-
-pub all_map : {X Y : Type 0} (f : Y → Bool) (g : X → Y) (xs : List X) → all (λ x. f (g x)) xs ≡ all f (map g xs)
-all_map f g [] = refl
-all_map f g (x ∷ xs) = ap (λ b. f (g x) && b) (all_map f g xs)
+use Rattle.protocol.specs.Tallies.{all}
 
 pub all_set : {X : Type 0} (f : X → Bool) (xs : List X) (i : ℕ) (y : X) → f y ≡ true → all f xs ≡ true → all f (slice_set xs i y) ≡ true
 all_set f [] i y h g = refl
 all_set f (x ∷ xs) zero y h g = and_from (f y) (all f xs) h (and_parts (f x) (all f xs) g).1
 all_set f (x ∷ xs) (suc i) y h g =
     and_from (f x) (all f (slice_set xs i y)) (and_parts (f x) (all f xs) g).0 (all_set f xs i y h (and_parts (f x) (all f xs) g).1)
-
-pub all_append : {X : Type 0} (f : X → Bool) (xs ys : List X) → all f xs ≡ true → all f ys ≡ true → all f (xs ++ ys) ≡ true
-all_append f [] ys g h = h
-all_append f (x ∷ xs) ys g h =
-    and_from (f x) (all f (xs ++ ys)) (and_parts (f x) (all f xs) g).0 (all_append f xs ys (and_parts (f x) (all f xs) g).1 h)
 
 pub all_replicate : {X : Type 0} (f : X → Bool) (n : ℕ) (x : X) → f x ≡ true → all f (replicate n x) ≡ true
 all_replicate f zero x h = refl

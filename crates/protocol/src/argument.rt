@@ -1,10 +1,10 @@
 //! Kinds of arguments, and arguments.
 
 ghost use Rattle.std.specs.Prelude.{◌≡◌};
-ghost use Rattle.protocol.specs.Kinds.{same_type, kind_of, agree};
+ghost use Rattle.protocol.specs.Kinds.{same_type, unmarked, kind_of, agree};
 
 /// Whether an argument may be null.
-#[derive(Clone, Copy, PartialEq, Eq)]
+#[derive(Clone, Copy, Debug, PartialEq, Eq)]
 pub enum AllowNull {
     /// Null values are allowed.
     Yes,
@@ -13,7 +13,7 @@ pub enum AllowNull {
 }
 
 /// The kind of an argument.
-#[derive(Clone, Copy, PartialEq, Eq)]
+#[derive(Clone, Copy, Debug, PartialEq, Eq)]
 pub enum ArgumentType {
     /// a signed number
     Int,
@@ -38,22 +38,23 @@ impl ArgumentType {
     pub fn same_type(self, other: Self) -> bool
         ensures { result ≡ same_type self other }
     {
-        matches!(
-            (self, other),
-            (ArgumentType::Int, ArgumentType::Int)
-                | (ArgumentType::Uint, ArgumentType::Uint)
-                | (ArgumentType::Fixed, ArgumentType::Fixed)
-                | (ArgumentType::Str(_), ArgumentType::Str(_))
-                | (ArgumentType::Object(_), ArgumentType::Object(_))
-                | (ArgumentType::NewId, ArgumentType::NewId)
-                | (ArgumentType::Array, ArgumentType::Array)
-                | (ArgumentType::Fd, ArgumentType::Fd)
-        )
+        self.unmarked() == other.unmarked()
+    }
+
+    // The kind with null allowed, where it may be allowed.
+    fn unmarked(self) -> Self
+        ensures { result ≡ unmarked self }
+    {
+        match self {
+            ArgumentType::Str(_) => ArgumentType::Str(AllowNull::Yes),
+            ArgumentType::Object(_) => ArgumentType::Object(AllowNull::Yes),
+            kind => kind,
+        }
     }
 }
 
 /// An argument of a message. `Id` names an object, and `Bytes` is where texts and arrays lie.
-#[derive(Clone, Copy)]
+#[derive(Clone, Copy, Debug, PartialEq, Eq)]
 pub enum Argument<Id, Bytes> {
     Int(i32),
     Uint(u32),
@@ -90,13 +91,9 @@ pub fn check_for_signature<Id, Bytes>(
 ) -> bool
     ensures { result ≡ agree signature.now args.now }
 {
-    if signature.len() != args.len() {
-        return false;
-    }
-    for (i, kind) in signature.iter().enumerate() {
-        if !args[i].get_type().same_type(*kind) {
-            return false;
-        }
-    }
-    true
+    signature.len() == args.len()
+        && signature
+            .iter()
+            .zip(args)
+            .all(|(kind, arg)| arg.get_type().same_type(*kind))
 }

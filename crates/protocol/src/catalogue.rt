@@ -15,7 +15,7 @@ ghost use Rattle.protocol.specs.Fillings.{rows_length};
 
 use crate::core_interfaces::{CORE_ROWS, core_interface};
 use crate::filled::Filled;
-use crate::interface::{Heading, MessageDesc, desc_at, message_at, same_name};
+use crate::interface::{Heading, MessageBuf, MessageDesc, same_name};
 
 /// The row number of `<anonymous>`, which admits every interface where an argument row is asked for.
 pub const ANONYMOUS_ROW: u32 = 0;
@@ -23,6 +23,8 @@ pub const ANONYMOUS_ROW: u32 = 0;
 /// A list of rows that keeps the laws. Every answer comes from that list, and is none exactly past an end.
 pub trait Catalogue {
     ghost rows: { Self → List RowModel };
+
+    // A caller asks for a request or an event, so both are methods, and an impl's two bodies differ in one field.
 
     /// The name and version of a row.
     fn heading<'s>(&'s self, row: u32) -> Option<Heading<'s>>
@@ -57,13 +59,13 @@ impl Catalogue for Core {
     }
 
     fn request<'s>(&'s self, row: u32, opcode: u16) -> Option<MessageDesc<'s>> {
-        let interface = core_interface(row)?;
-        message_at(interface.requests, opcode)
+        let request = core_interface(row)?.requests.get(usize::from(opcode));
+        request.copied()
     }
 
     fn event<'s>(&'s self, row: u32, opcode: u16) -> Option<MessageDesc<'s>> {
-        let interface = core_interface(row)?;
-        message_at(interface.events, opcode)
+        let event = core_interface(row)?.events.get(usize::from(opcode));
+        event.copied()
     }
 }
 
@@ -89,16 +91,16 @@ impl Catalogue for Filled {
         if row < CORE_ROWS {
             return Core {}.request(row, opcode);
         }
-        let interface = self.later_row(row)?;
-        desc_at(interface.requests.as_slice(), opcode)
+        let request = self.later_row(row)?.requests.get(usize::from(opcode));
+        request.map(MessageBuf::desc)
     }
 
     fn event<'s>(&'s self, row: u32, opcode: u16) -> Option<MessageDesc<'s>> {
         if row < CORE_ROWS {
             return Core {}.event(row, opcode);
         }
-        let interface = self.later_row(row)?;
-        desc_at(interface.events.as_slice(), opcode)
+        let event = self.later_row(row)?.events.get(usize::from(opcode));
+        event.map(MessageBuf::desc)
     }
 }
 

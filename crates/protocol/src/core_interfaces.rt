@@ -108,15 +108,17 @@ const WL_CALLBACK_INTERFACE: Interface<'static> = Interface {
     }],
 };
 
+/// The core, by row number.
+pub(crate) const CORE: [Interface<'static>; CORE_ROWS as usize] = [
+    ANONYMOUS_INTERFACE,
+    WL_DISPLAY_INTERFACE,
+    WL_REGISTRY_INTERFACE,
+    WL_CALLBACK_INTERFACE,
+];
+
 /// The core interface of a row number, or none past the core.
 pub(crate) fn core_interface(row: u32) -> Option<Interface<'static>>
     ensures { option_map meant result ≡ slice_get core_rows row }
 {
-    match row {
-        0 => Some(ANONYMOUS_INTERFACE),
-        1 => Some(WL_DISPLAY_INTERFACE),
-        2 => Some(WL_REGISTRY_INTERFACE),
-        3 => Some(WL_CALLBACK_INTERFACE),
-        _ => None,
-    }
+    CORE.get(row as usize).copied()
 }

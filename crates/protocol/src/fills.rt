@@ -1,10 +1,10 @@
 //! How a catalogue is made and filled.
 
-ghost use Rattle.std.specs.Prelude.{◌≡◌, ◌-◌, ◌&&◌, map, replicate, IfOk, nat_le};
+ghost use Rattle.std.specs.Prelude.{◌≡◌, ◌-◌, ◌&&◌, map, replicate, IfOk, Some, nat_le};
 ghost use Rattle.std.specs.Option.{option_map};
 ghost use Rattle.std.specs.List.{slice_get};
 ghost use Rattle.protocol.specs.CoreRows.{blank as blank_row};
-ghost use Rattle.protocol.specs.Filling.{filled_rows, Made, fill_answer, fill_after, FillLaws};
+ghost use Rattle.protocol.specs.Filling.{filled_rows, Made, fill_answer, fill_after, catalogue_text_of, FillLaws};
 ghost use Rattle.protocol.specs.Model.{meant_buf};
 ghost use Rattle.protocol.specs.RowTests.{may_stand};
 ghost use Rattle.protocol.specs.declared.fills.CatalogueError.TheVariants.{Refused as RefusedBy, NoMemory};
@@ -15,12 +15,14 @@ use crate::interface::InterfaceBuf;
 use crate::laws::may_stand;
 use crate::refusal::Refusal;
 use std::alloc::{AllocError, Global};
+use std::error::Error;
+use std::fmt;
 
 /// The most rows of a catalogue.
 pub const MOST_ROWS: u32 = 64;
 
 /// Why a catalogue was not made.
-#[derive(Clone, Copy)]
+#[derive(Clone, Copy, Debug, PartialEq, Eq)]
 pub enum CatalogueError {
     /// it was refused, and nothing was made
     Refused(Refusal),
@@ -28,6 +30,7 @@ pub enum CatalogueError {
     NoMemory,
 }
 
+// By hand, both: `Made` names the error that `?` makes, and a derived `From` has no clause.
 impl From<Refusal> for CatalogueError {
     ghost from_gives = { λ e r. r ≡ RefusedBy e };
 
@@ -43,6 +46,19 @@ impl From<AllocError> for CatalogueError {
         CatalogueError::NoMemory
     }
 }
+
+impl fmt::Display for CatalogueError {
+    ghost output = { λ e. Some (catalogue_text_of e) };
+
+    fn fmt<W: fmt::Write>(&self, f: &mut fmt::Formatter<W>) -> fmt::Result {
+        match self {
+            CatalogueError::Refused(refusal) => refusal.fmt(f),
+            CatalogueError::NoMemory => f.write_str("out of memory"),
+        }
+    }
+}
+
+impl Error for CatalogueError {}
 
 // A row that was not filled yet.
 fn blank(heap: Global) -> Result<InterfaceBuf, AllocError>
@@ -60,9 +76,8 @@ fn blanks(heap: Global, count: u32) -> Result<Vec<InterfaceBuf>, AllocError>
     ensures { IfOk result (λ v. map meant_buf v.items ≡ replicate count blank_row) }
 {
     let mut rows = Vec::new(heap);
-    for i in 0..count {
-        let row = blank(heap)?;
-        rows.push(row)?;
+    for _ in 0..count {
+        rows.push(blank(heap)?)?;
     }
     Ok(rows)
 }
@@ -107,12 +122,7 @@ impl Filled {
     pub(crate) fn later_row(&self, number: u32) -> Option<&InterfaceBuf>
         ensures { option_map (λ x. meant_buf x.now) result ≡ slice_get (map meant_buf self.now.later.items) (number - 4) }
     {
-        let at = number.saturating_sub(CORE_ROWS) as usize;
-        if at < self.later.len() {
-            Some(&self.later[at])
-        } else {
-            None
-        }
+        self.later.get(number.saturating_sub(CORE_ROWS) as usize)
     }
 }
 

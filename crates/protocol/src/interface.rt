@@ -1,15 +1,15 @@
 //! Interfaces and their messages: as views of what someone else holds, and as values that own their parts.
+//!
+//! Two types of each, as `&str` and `String`: the core's constants need views, a catalogue that is filled needs owners.
 
-ghost use Rattle.std.specs.Prelude.{◌≡◌, map};
-ghost use Rattle.std.specs.Option.{option_map};
-ghost use Rattle.std.specs.List.{slice_get};
+ghost use Rattle.std.specs.Prelude.{◌≡◌};
 ghost use Rattle.std.specs.Str.{bytes_eq};
 ghost use Rattle.protocol.specs.Model.{said, said_buf};
 
 use crate::argument::ArgumentType;
 
 /// A request or an event.
-#[derive(Clone, Copy)]
+#[derive(Clone, Copy, Debug, PartialEq, Eq)]
 pub struct MessageDesc<'a> {
     pub name: &'a [u8],
     pub signature: &'a [ArgumentType],
@@ -23,7 +23,7 @@ pub struct MessageDesc<'a> {
 }
 
 /// An interface whose messages lie in a slice.
-#[derive(Clone, Copy)]
+#[derive(Clone, Copy, Debug, PartialEq, Eq)]
 pub struct Interface<'a> {
     pub name: &'a [u8],
     pub version: u32,
@@ -32,14 +32,14 @@ pub struct Interface<'a> {
 }
 
 /// What a row says of its interface besides the messages.
-#[derive(Clone, Copy)]
+#[derive(Clone, Copy, Debug, PartialEq, Eq)]
 pub struct Heading<'a> {
     pub name: &'a [u8],
     pub version: u32,
 }
 
 /// A request or an event that owns its parts.
-#[derive(Drop)]
+#[derive(Debug, Drop, PartialEq, Eq)]
 pub struct MessageBuf {
     pub name: Vec<u8>,
     pub signature: Vec<ArgumentType>,
@@ -50,7 +50,7 @@ pub struct MessageBuf {
 }
 
 /// An interface that owns its parts.
-#[derive(Drop)]
+#[derive(Debug, Drop, PartialEq, Eq)]
 pub struct InterfaceBuf {
     pub name: Vec<u8>,
     pub version: u32,
@@ -79,32 +79,4 @@ pub fn same_name(a: &[u8], b: &[u8]) -> bool
     ensures { result ≡ bytes_eq a.now b.now }
 {
     a == b
-}
-
-/// The message of an opcode among views.
-pub(crate) fn message_at<'a>(
-    messages: &'a [MessageDesc<'a>],
-    opcode: u16,
-) -> Option<MessageDesc<'a>>
-    ensures { option_map said result ≡ slice_get (map said messages.now) opcode }
-{
-    let at = opcode as usize;
-    if at < messages.len() {
-        let message = messages[at];
-        Some(message)
-    } else {
-        None
-    }
-}
-
-/// The message of an opcode among messages that own their parts.
-pub(crate) fn desc_at<'a>(messages: &'a [MessageBuf], opcode: u16) -> Option<MessageDesc<'a>>
-    ensures { option_map said result ≡ slice_get (map said_buf messages.now) opcode }
-{
-    let at = opcode as usize;
-    if at < messages.len() {
-        Some(messages[at].desc())
-    } else {
-        None
-    }
 }

@@ -7,7 +7,6 @@
 
 pub mod argument;
 pub mod catalogue;
-pub mod checks;
 pub mod core_interfaces;
 pub mod filled;
 pub mod fills;

@@ -1,8 +1,7 @@
 -- The laws of a queue's list of items.
-use Rattle.std.proofs.Common.{◌≡◌, ℕ, zero, suc, ◌<◌, ltb, List, [], ◌∷◌, ◌++◌, length, Some, sym, refl, ap, ◌∙◌, arith}
+use Rattle.std.proofs.Common.{◌≡◌, ℕ, zero, suc, ◌<◌, List, [], ◌∷◌, ◌++◌, length, Some, sym, refl, arith}
 use Rattle.queue.specs.Laws.{popped, QueueLaws}
-use Rattle.queue.specs.Ring.{front, within_room}
-use Rattle.std.proofs.lemmas.Bool.{lt-ltb, le-ltb, cond-true, cond-false, cond_both}
+use Rattle.queue.specs.Ring.{front}
 use Rattle.std.specs.List.{slice_get}
 
 pub nth_front : {A : Type 0} (xs : List A) → slice_get xs 0 ≡ front xs
@@ -27,8 +26,8 @@ module _ {A : Type 0} where
   pub laws : QueueLaws A
   laws =
       record {
-        in_turn = λ room x xs few. popped_front (length xs) (within_room room x xs) ∙ ap (λ (l : List A). slice_get l (length xs)) (cond-true (ltb (length xs) room) (xs ++ x ∷ []) xs (lt-ltb (length xs) room few)) ∙ nth_last xs x;
+        in_turn = λ room x xs few. grind (arith, popped_front (length xs) (xs ++ x ∷ []), nth_last xs x);
         in_order = popped_front;
-        full = λ room x xs most. cond-false (ltb (length xs) room) (xs ++ x ∷ []) xs (le-ltb (length xs) room most);
-        kept = λ room x xs i low. cond_both (ltb (length xs) room) (xs ++ x ∷ []) xs (λ (l : List A). slice_get l i ≡ slice_get xs i) (λ t. nth_below xs x i low) (λ t. refl);
+        full = λ room x xs most. grind arith;
+        kept = λ room x xs i low. grind (arith, nth_below xs x i low);
       }

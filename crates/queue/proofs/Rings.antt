@@ -1,8 +1,8 @@
 -- The laws of a ring: its length, the item at an index, one item more at its end, one less at its front.
 use Rattle.std.proofs.Common.{◌≡◌, ℕ, zero, suc, ◌+◌, ◌-◌, ◌<◌, ◌≤◌, ltb, List, [], ◌∷◌, ◌++◌, length, get_or, take, drop, set, Some, None, sym, refl, ap, ◌∙◌, arith, length-append, length-drop, length-take}
-use Rattle.queue.specs.Ring.{turned, ring, stepped, front, others}
+use Rattle.queue.specs.Ring.{turned, ring, stepped, others}
 use Rattle.std.proofs.lemmas.List.{take_more_set, take-append-le, take_more, drop_more, drop_all, take-take, append-nil, append_assoc, set-append_left, set-append_right, take-set-le, drop-set-add, drop-set-lt, get_or_append_left, get_or-append_right, get_or-take, get_or-drop}
-use Rattle.std.proofs.lemmas.Option.{slice_get_past, slice_get-get_or}
+use Rattle.std.proofs.lemmas.Option.{slice_get_past, slice_get-get_or, slice_get_within}
 use Rattle.std.proofs.lemmas.Bool.{ltb-true, ltb-false, cond_both}
 use Rattle.std.specs.List.{slice_get}
 use lib.Seq.{take-set-lt}
@@ -76,6 +76,9 @@ module _ {A : Type 0} (xs : List A) (h : ℕ) (inside : h ≤ length xs) (d : A)
 pub ring_past : {A : Type 0} (xs : List A) (h n i : ℕ) → n ≤ length xs → n ≤ i → None ≡ slice_get (ring xs h n) i
 ring_past xs h n i few past = sym (slice_get_past (ring xs h n) i (omega (arith, ring_length xs h n few)))
 
+pub ring_some : {A : Type 0} (xs : List A) (h n : ℕ) → n ≤ length xs → (i : ℕ) (x : A) → slice_get (ring xs h n) i ≡ Some x → i < n
+ring_some xs h n few i x there = omega (arith, slice_get_within (ring xs h n) i x there, ring_length xs h n few)
+
 pub ring_none : {A : Type 0} (xs : List A) (h : ℕ) → ring xs h 0 ≡ []
 unfolding ring
 ring_none xs h = refl
@@ -85,14 +88,6 @@ take_cons zero y ys some = absurd (omega arith)
 take_cons (suc m) y ys some =
     let less : m ≡ suc m - 1 = omega arith in
     ap (λ (k : ℕ). y ∷ take k ys) less
-
-pub none_front : {A : Type 0} (xs : List A) (h n : ℕ) → n ≡ 0 → None ≡ front (ring xs h n)
-none_front xs h n none = sym (ap (λ (k : ℕ). front (ring xs h k)) none ∙ ap front (ring_none xs h))
-
-pub none_others : {A : Type 0} (xs : List A) (h n : ℕ) → n ≡ 0 → ring xs h n ≡ others (ring xs h n)
-none_others {A} xs h n none =
-    let empty : ring xs h n ≡ [] = ap (ring xs h) none ∙ ring_none xs h in
-    empty ∙ sym (ap others empty)
 
 -- the ring from its first item on
 module _ {A : Type 0} (xs : List A) (h : ℕ) (inside : h < length xs) (d : A) where
@@ -118,9 +113,6 @@ module _ {A : Type 0} (xs : List A) (h : ℕ) (inside : h < length xs) (d : A) w
   first_take : (n : ℕ) → 0 < n → ring xs h n ≡ get_or xs h d ∷ take (n - 1) (drop (h + 1) xs ++ take h xs)
   unfolding ring
   first_take n some = ap (take n) turned_front ∙ take_cons n (get_or xs h d) (drop (h + 1) xs ++ take h xs) some
-
-  pub ring_front : (n : ℕ) → 0 < n → Some (get_or xs h d) ≡ front (ring xs h n)
-  ring_front n some = sym (ap front (first_take n some))
 
   pub ring_others_on : (n : ℕ) → 0 < n → n ≤ length xs → h + 1 < length xs → ring xs (h + 1) (n - 1) ≡ others (ring xs h n)
   ring_others_on n some few more =

@@ -1,37 +1,25 @@
 -- The laws of a row of queues: a change at one place, and none at the others.
-use Rattle.std.proofs.Common.{◌≡◌, ℕ, zero, suc, ◌+◌, ◌-◌, ◌*◌, ◌/◌, ◌<◌, ◌≤◌, true, false, ◌||◌, eqb, ltb, leb, List, [], ◌∷◌, length, get_or, take, drop, set, Some, None, Option, sym, refl, ap, ◌∙◌, subst, ⊎_elim, mul-le-mul_right, suc-mul, arith}
-use Rattle.queue.proofs.Rings.{ring_none}
-use Rattle.queue.specs.Marks.{Sound, sound, fresh, usable, marked, held_in}
+use Rattle.std.proofs.Common.{◌≡◌, ℕ, zero, suc, ◌+◌, ◌-◌, ◌*◌, ◌/◌, ◌<◌, ◌≤◌, true, List, [], ◌∷◌, length, take, drop, set, Some, None, Option, sym, refl, ap, ◌∙◌, subst, mul-le-mul_right, suc-mul, arith}
+use Rattle.queue.proofs.Rings.{ring_none, ring_length}
+use Rattle.queue.specs.Marks.{Sound, sound, fresh, marked, held_in}
 use Rattle.queue.specs.Ring.{part, at_place}
-use Rattle.queue.specs.Rows.{share, seat, rows, rooms, room_in}
-use Rattle.queue.specs.Spans.{Spans}
+use Rattle.queue.specs.Rows.{share, seat, rows, rooms}
+use Rattle.queue.specs.Spans.{Spans, Found}
 use Rattle.queue.specs.declared.Mark.{Mark}
 use Rattle.queue.specs.declared.Span.{Span}
-use Rattle.std.proofs.lemmas.List.{length-set}
-use Rattle.std.proofs.lemmas.Option.{slice_get_past, slice_get-get_or}
+use Rattle.std.proofs.lemmas.List.{length-set, get_or-set_same}
+use Rattle.std.proofs.lemmas.Option.{slice_get-get_or}
 use Rattle.std.proofs.lemmas.Slice.{between_is, between-put_mid, take-put_mid_below, drop-put_mid}
-use Rattle.std.proofs.lemmas.Bool.{and_parts, or_cases, and_from, or_left, or_right, leb-true, ltb-true, eqb-true, eqb-false, le-leb, lt-ltb, eq-eqb, cases_lt, cases_eq, cases_order, cond-true, cond-false, cond_both}
+use Rattle.std.proofs.lemmas.Bool.{cases_eq}
 use Rattle.std.specs.List.{slice_get}
+use Rattle.std.specs.Option.{option_map, is_some, MatchOption}
 use borrow.Rule.Slice.PartMut.{put_mid, same_len_mid, mid_len}
-use native.Mathlib.Nat.{mul-div-le}
-
-pub sound_means : (w : ℕ) (m : Mark) → sound w m ≡ true → Sound w m
-sound_means w m t =
-    let both = and_parts (leb m.count w) (ltb m.head w || eqb w 0) t in (
-      λ some. ⊎_elim (ltb-true m.head w) (λ e. absurd (omega (arith, eqb-true w 0 e))) (or_cases (ltb m.head w) (eqb w 0) both.1),
-      leb-true m.count w both.0,
-    )
 
 pub sound_from : (w : ℕ) (m : Mark) → Sound w m → sound w m ≡ true
-sound_from w m s =
-    and_from (leb m.count w) (ltb m.head w || eqb w 0) (le-leb m.count w s.1)
-    (⊎_elim
-    (λ some. or_left (ltb m.head w) (eqb w 0) (lt-ltb m.head w (s.0 some)))
-    (λ none. or_right (ltb m.head w) (eqb w 0) (eq-eqb w 0 (omega arith)))
-    (cases_lt 0 w))
+sound_from w m s = grind arith
 
 pub fresh_fits : (w : ℕ) → sound w fresh ≡ true
-fresh_fits w = sound_from w fresh ((λ some. some), omega arith)
+fresh_fits w = grind arith
 
 -- the shares of places below one another
 pub below : (p q w : ℕ) → p < q → p * w + w ≤ q * w
@@ -39,13 +27,8 @@ below p q w less =
     let one : suc p ≤ q = omega arith in
     omega (arith, suc-mul p w, mul-le-mul_right {m = suc p} {n = q} w one)
 
-pub share_inside : (total places p : ℕ) → p < places → p * (total / places) + total / places ≤ total
-share_inside total places p known = omega (arith, below p places (total / places) known, mul-div-le total places)
-
 nth_set_here : {X : Type 0} (xs : List X) (i : ℕ) (x : X) → i < length xs → slice_get (set xs i x) i ≡ Some x
-nth_set_here [] i x h = absurd (omega arith)
-nth_set_here (y ∷ ys) zero x h = refl
-nth_set_here (y ∷ ys) (suc i) x h = nth_set_here ys i x (omega arith)
+nth_set_here xs i x h = slice_get-get_or (set xs i x) i x (omega (arith, length-set xs i x)) ∙ ap Some (get_or-set_same xs i x x h)
 
 nth_set_other : {X : Type 0} (xs : List X) (i j : ℕ) (x : X) → (j ≡ i → ⊥) → slice_get (set xs i x) j ≡ slice_get xs j
 nth_set_other [] i j x ne = refl
@@ -53,15 +36,6 @@ nth_set_other (y ∷ ys) zero zero x ne = absurd (ne refl)
 nth_set_other (y ∷ ys) zero (suc j) x ne = refl
 nth_set_other (y ∷ ys) (suc i) zero x ne = refl
 nth_set_other (y ∷ ys) (suc i) (suc j) x ne = nth_set_other ys i j x (λ e. ne (ap suc e))
-
-pub seat_past : (w : ℕ) (marks : List Mark) (p : ℕ) → length marks ≤ p → None ≡ seat w marks p
-seat_past w marks p past = sym (ap (usable w) (slice_get_past marks p past))
-
-pub seat_unsound : (w : ℕ) (marks : List Mark) (p : ℕ) (d : Mark) → p < length marks → false ≡ sound w (get_or marks p d) → None ≡ seat w marks p
-seat_unsound w marks p d known bad = sym (ap (usable w) (slice_get-get_or marks p d known) ∙ cond-false (sound w (get_or marks p d)) (Some (get_or marks p d)) None (sym bad))
-
-pub seat_sound : (w : ℕ) (marks : List Mark) (p : ℕ) (d : Mark) → p < length marks → true ≡ sound w (get_or marks p d) → Some (get_or marks p d) ≡ seat w marks p
-seat_sound w marks p d known good = sym (ap (usable w) (slice_get-get_or marks p d known) ∙ cond-true (sound w (get_or marks p d)) (Some (get_or marks p d)) None (sym good))
 
 -- a new mark at a place, and new cells there
 module _ {A : Type 0} (cells cells' : List A) (marks : List Mark) (place : ℕ) (m m' : Mark)
@@ -75,31 +49,17 @@ module _ {A : Type 0} (cells cells' : List A) (marks : List Mark) (place : ℕ) 
     width_same = ap (λ (n : ℕ). n / length (set marks place m')) long ∙ ap (λ (n : ℕ). length cells / n) (length-set marks place m')
 
     seat_here : seat (share cells marks) (set marks place m') place ≡ Some m'
-    seat_here =
-        ap (usable (share cells marks)) (nth_set_here marks place m' known)
-        ∙ cond-true (sound (share cells marks) m') (Some m') None ok
+    seat_here = grind (arith, nth_set_here marks place m' known)
 
     seat_there : (p : ℕ) → (p ≡ place → ⊥) → seat (share cells marks) (set marks place m') p ≡ seat (share cells marks) marks p
-    seat_there p ne = ap (usable (share cells marks)) (nth_set_other marks place p m' ne)
+    seat_there p ne = grind (arith, nth_set_other marks place p m' ne)
 
     pub rows_changed : (f : List A → List A) → marked (part (share cells marks) cells' place) m' ≡ f (marked (part (share cells marks) cells place) m)
         → (p : ℕ) → rows cells' (set marks place m') p ≡ at_place place f (rows cells marks) p
-    rows_changed f holds p =
-        let w = share cells marks in
-        let at : ℕ → List A = λ q. held_in (part w cells' q) (seat w (set marks place m') q) in
-        let here : at place ≡ f (rows cells marks place) = ap (held_in (part w cells' place)) seat_here ∙ holds ∙ ap (λ (o : Option Mark). f (held_in (part w cells place) o)) is in
-        let same : p ≡ place → at p ≡ f (rows cells marks p) = λ e. subst (λ (q : ℕ). at q ≡ f (rows cells marks q)) (sym e) here in
-        let apart : (p ≡ place → ⊥) → at p ≡ rows cells marks p = λ ne. ap (λ (l : List A). held_in l (seat w (set marks place m') p)) (other p ne) ∙ ap (held_in (part w cells p)) (seat_there p ne) in
-        ap (λ (v : ℕ). held_in (part v cells' p) (seat v (set marks place m') p)) width_same
-        ∙ cond_both (eqb p place) (f (rows cells marks p)) (rows cells marks p) (λ (l : List A). at p ≡ l) (λ t. same (eqb-true p place t)) (λ t. apart (eqb-false p place t))
+    rows_changed f holds p = grind (arith, width_same, seat_here, seat_there p, other p, holds, is, cases_eq p place)
 
     pub rooms_same : (p : ℕ) → rooms cells' (set marks place m') p ≡ rooms cells marks p
-    rooms_same p =
-        let w = share cells marks in
-        let at : ℕ → ℕ = λ q. room_in w (seat w (set marks place m') q) in
-        let here : at place ≡ rooms cells marks place = ap (room_in w) seat_here ∙ ap (room_in w) is in
-        ap (λ (v : ℕ). room_in v (seat v (set marks place m') p)) width_same
-        ∙ ⊎_elim (λ e. subst (λ (q : ℕ). at q ≡ rooms cells marks q) (sym e) here) (λ ne. ap (room_in w) (seat_there p ne)) (cases_eq p place)
+    rooms_same p = grind (arith, width_same, seat_here, seat_there p, is, cases_eq p place)
 
 -- cells written in the part of one place
 module _ {A : Type 0} (cells ys : List A) (w place k : ℕ) (inside : place * w + w ≤ length cells) (wide : k ≡ w) (long : length ys ≡ w) where
@@ -110,16 +70,7 @@ module _ {A : Type 0} (cells ys : List A) (w place k : ℕ) (inside : place * w 
       between-put_mid (place * w) k cells ys (place * w + w) start same
 
   pub part_other : (p : ℕ) → (p ≡ place → ⊥) → part w (put_mid (place * w) k cells ys) p ≡ part w cells p
-  part_other p ne =
-      let start : place * w ≤ length cells = omega arith in
-      let same : length ys ≡ k = omega arith in
-      let under : p < place → part w (put_mid (place * w) k cells ys) p ≡ part w cells p =
-      λ less. between_is (put_mid (place * w) k cells ys) (p * w) (p * w + w)
-      ∙ ap (drop (p * w)) (take-put_mid_below (place * w) k cells ys (p * w + w) (below p place w less) start)
-      ∙ sym (between_is cells (p * w) (p * w + w)) in
-      let over : place < p → part w (put_mid (place * w) k cells ys) p ≡ part w cells p =
-      λ more. ap (take (p * w + w - p * w)) (drop-put_mid (place * w) k cells ys (p * w) (omega (arith, below place p w more)) start same) in
-      ⊎_elim (λ e. absurd (ne e)) (⊎_elim under over) (cases_order p place)
+  part_other p ne = grind (arith, between_is (put_mid (place * w) k cells ys) (p * w) (p * w + w), between_is cells (p * w) (p * w + w), take-put_mid_below (place * w) k cells ys (p * w + w), drop-put_mid (place * w) k cells ys (p * w), below p place w, below place p w)
 
 -- the same by a span, as the code has it
 module _ {A : Type 0} (cells : List A) (marks : List Mark) (place : ℕ) (s : Span)
@@ -131,9 +82,7 @@ module _ {A : Type 0} (cells : List A) (marks : List Mark) (place : ℕ) (s : Sp
     own = take (s.high - s.low) (drop s.low cells)
 
     own_part : own ≡ part (share cells marks) cells place
-    own_part =
-        ap (λ (h : ℕ). take (h - s.low) (drop s.low cells)) spans.high
-        ∙ ap (λ (l : ℕ). take (place * share cells marks + share cells marks - l) (drop l cells)) spans.low
+    own_part = grind (arith, spans.high, spans.low)
 
     pub own_wide : length own ≡ share cells marks
     own_wide =
@@ -142,12 +91,10 @@ module _ {A : Type 0} (cells : List A) (marks : List Mark) (place : ℕ) (s : Sp
         ap length own_part ∙ mid_len (place * w) (place * w + w) cells inside ∙ omega arith
 
     pub own_room : length own ≡ rooms cells marks place
-    own_room = own_wide ∙ ap (room_in (share cells marks)) is
+    own_room = grind (arith, own_wide, is)
 
     pub own_items : marked own s.mark ≡ rows cells marks place
-    own_items =
-        ap (λ (l : List A). marked l s.mark) own_part
-        ∙ ap (held_in (part (share cells marks) cells place)) is
+    own_items = grind (arith, own_part, is)
 
     -- what a write in the span leaves
     module _ (ys : List A) (m' : Mark) (long : length ys ≡ length own) (ok : Sound (length own) m') where
@@ -173,19 +120,14 @@ module _ {A : Type 0} (cells : List A) (marks : List Mark) (place : ℕ) (s : Sp
       left_long = same_len_mid s.low (s.high - s.low) cells ys long
 
       left_other : (p : ℕ) → (p ≡ place → ⊥) → part (share cells marks) left p ≡ part (share cells marks) cells p
-      left_other p ne =
-          ap (λ (l : List A). part (share cells marks) l p) left_is
-          ∙ part_other cells ys (share cells marks) place (s.high - s.low) inside wide width p ne
+      left_other p ne = grind (arith, left_is, part_other cells ys (share cells marks) place (s.high - s.low) inside wide width p ne)
 
       left_here : part (share cells marks) left place ≡ ys
-      left_here =
-          ap (λ (l : List A). part (share cells marks) l place) left_is
-          ∙ part_here cells ys (share cells marks) place (s.high - s.low) inside wide width
+      left_here = grind (arith, left_is, part_here cells ys (share cells marks) place (s.high - s.low) inside wide width)
 
       pub left_rows : (f : List A → List A) → marked ys m' ≡ f (marked own s.mark) → (p : ℕ) → rows left (set marks place m') p ≡ at_place place f (rows cells marks) p
       left_rows f holds =
-          rows_changed cells left marks place s.mark m' spans.known is fine left_long left_other f
-          (ap (λ (l : List A). marked l m') left_here ∙ holds ∙ ap (λ (l : List A). f (marked l s.mark)) own_part)
+          rows_changed cells left marks place s.mark m' spans.known is fine left_long left_other f (grind (arith, left_here, holds, own_part))
 
       pub left_rooms : (p : ℕ) → rooms left (set marks place m') p ≡ rooms cells marks p
       left_rooms = rooms_same cells left marks place s.mark m' spans.known is fine left_long left_other
@@ -198,3 +140,21 @@ module _ {A : Type 0} (cells : List A) (marks : List Mark) (place : ℕ) (s : Sp
 
     pub cleared_rooms : (p : ℕ) → rooms cells (set marks place fresh) p ≡ rooms cells marks p
     cleared_rooms = rooms_same cells cells marks place s.mark fresh spans.known is (fresh_fits (share cells marks)) refl (λ p ne. refl)
+
+    -- how many items wait there
+    pub own_count : s.mark.count ≡ length (rows cells marks place)
+    own_count =
+        let few : s.mark.count ≤ length own = omega (arith, own_wide, spans.sound.1) in
+        sym (ring_length own s.mark.head s.mark.count few) ∙ ap length own_items
+
+-- the same where there may be no span
+module _ {A : Type 0} (cells : List A) (marks : List Mark) (place : ℕ) where
+  pub counted : (o : Option Span) (n : ℕ) → option_map (λ s. s.mark) o ≡ seat (share cells marks) marks place → Found (share cells marks) (length cells) (length marks) place o
+      → MatchOption o (n ≡ 0) (λ s. n ≡ s.mark.count) → n ≡ length (rows cells marks place)
+  counted None n is found counts = counts ∙ ap (λ (o : Option Mark). length (held_in (part (share cells marks) cells place) o)) is
+  counted (Some s) n is found counts = counts ∙ own_count cells marks place s found is
+
+  pub cleared : (o : Option Span) → is_some o ≡ true → option_map (λ s. s.mark) o ≡ seat (share cells marks) marks place → Found (share cells marks) (length cells) (length marks) place o
+      → ((p : ℕ) → rows cells (set marks place fresh) p ≡ at_place place (λ _. []) (rows cells marks) p) × ((p : ℕ) → rooms cells (set marks place fresh) p ≡ rooms cells marks p)
+  cleared None some is found = grind arith
+  cleared (Some s) some is found = (cleared_rows cells marks place s found is, cleared_rooms cells marks place s found is)

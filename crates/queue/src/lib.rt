@@ -11,6 +11,7 @@
 
 #![tactic(auto)]
 
+mod ring;
 mod rows;
 mod single;
 
@@ -29,18 +30,20 @@ pub struct Mark {
     pub count: usize,
 }
 
-/// One queue. Its items lie from the cell `head` on, and past the last cell they
-/// go on at the first, so that no item moves while it waits.
+/// One queue. Its items lie from the cell `head` of its mark on, and past the last
+/// cell they go on at the first, so that no item moves while it waits.
+// Lent cells with a mark beside them, and no VecDeque: nothing here may allocate.
+// Methods say one by one that room and lender stay: a ghost field or a model speaks of one state, and a model would hide the `&mut` whose loan callers follow.
 #[derive(Drop)]
 pub struct Queue<'a, T> {
     cells: &'a mut [T],
-    head: usize,
-    count: usize,
-    ghost within: { Sound (length cells.now) (record { head = head; count = count }) },
+    mark: Mark,
+    ghost within: { Sound (length cells.now) mark },
 }
 
 /// A queue for each place. Every place has a mark of its own and the same share
 /// of the cells.
+// Lent cells with lent marks beside them, and no Vec of queues: nothing here may allocate.
 #[derive(Drop)]
 pub struct Queues<'a, T> {
     cells: &'a mut [T],

@@ -2,21 +2,15 @@
 
 use crate::texts::{Kind, Name};
 use crate::words::{Misread, Words, number_of};
-use message::{ARGUMENTS, EVENT_BYTES, Event, Message, Part, Reader, bytes_of, lay};
+use message::{Event, Message, Part, Reader, bytes_of, lay};
 use protocol::argument::{Argument, ArgumentType};
 use std::alloc::Global;
 use std::fmt;
 
-/// A message with no arguments.
-pub const EMPTY: Message = Message {
-    count: 0,
-    arguments: [Argument::Uint(0); ARGUMENTS],
-};
-
 /// The arguments of the words that are left, or none where they are more than a message can hold. Texts and arrays are parts of
 /// the line.
 pub fn arguments_of(words: &mut Words<'_>) -> Result<Option<Message>, Misread> {
-    let mut message = EMPTY;
+    let mut message = Message::new();
     for (index, (argument, (start, word))) in message
         .arguments
         .iter_mut()
@@ -54,20 +48,10 @@ fn argument_of(start: usize, word: &str) -> Result<Argument<u32, Part>, Misread>
     }
 }
 
-/// An event with no arguments.
-pub fn bare_event(sender: u32, opcode: u16) -> Event {
-    Event {
-        sender,
-        opcode,
-        message: EMPTY,
-        bytes: [0; EVENT_BYTES],
-    }
-}
-
 /// An event with arguments that are parts of a line, or none where it has no room for their bytes: they are copied, one after
 /// the other.
 pub fn event_of(sender: u32, opcode: u16, message: Message, line: &[u8]) -> Option<Event> {
-    let mut event = bare_event(sender, opcode);
+    let mut event = Event::new(sender, opcode);
     event.message = message;
     let mut used: usize = 0;
     for argument in event.message.arguments.iter_mut() {
@@ -106,12 +90,11 @@ pub struct Arguments<'a> {
 
 impl<'a> fmt::Display for Arguments<'a> {
     fn fmt<W: fmt::Write>(&self, f: &mut fmt::Formatter<W>) -> fmt::Result {
-        let mut reader = Reader::new(self.message, self.body);
-        let mut before = "";
-        while let Some(argument) = reader.next() {
-            let argument = Shown(argument);
-            write!(f, "{before}{argument}")?;
-            before = self.between;
+        for (index, argument) in Reader::new(self.message, self.body).enumerate() {
+            if index > 0 {
+                f.write_str(self.between)?;
+            }
+            write!(f, "{}", Shown(argument))?;
         }
         Ok(())
     }

@@ -5,16 +5,15 @@ ghost use Rattle.std.specs.declared.result.Result.TheVariants.{Ok};
 ghost use Rattle.std.specs.declared.option.Option.TheVariants.{Some};
 ghost use Rattle.rehearse.specs.declared.command.Plan.{Plan};
 
-use crate::arguments::{EMPTY, bare_event};
 use crate::command::{Call, Mistake, Plan, WireCall, read_call};
 use crate::session::Session;
 use crate::wires::Over;
-use message::Event;
+use message::{Event, Message};
 use queue::Mark;
 use std::alloc::AllocError;
 use std::io;
 use wire::metered::MeteredWire;
-use wire::queued::{QueueWire, Request};
+use wire::queued::{Lent, QueueWire, Request};
 
 /// A line of a script.
 #[derive(Drop)]
@@ -114,15 +113,15 @@ impl<'r, 'b> Script<'r, 'b> {
         let request = Request {
             sender: 0,
             opcode: 0,
-            message: EMPTY,
+            message: Message::new(),
             body: &[],
         };
-        let mark = Mark { head: 0, count: 0 };
+        let mark = Mark::new();
         let places = plan.places;
         Ok(Memory {
             requests: vec![in heap; request; places.saturating_mul(plan.requests)]?,
             waiting: vec![in heap; mark; places]?,
-            events: vec![in heap; bare_event(0, 0); places.saturating_mul(plan.events)]?,
+            events: vec![in heap; Event::new(0, 0); places.saturating_mul(plan.events)]?,
             taken: vec![in heap; mark; places]?,
             broken: vec![in heap; false; places]?,
         })
@@ -141,12 +140,12 @@ struct Memory<'b> {
 
 impl<'b> Memory<'b> {
     fn wire(&mut self) -> QueueWire<'_, 'b> {
-        QueueWire::new(
-            &mut self.requests,
-            &mut self.waiting,
-            &mut self.events,
-            &mut self.taken,
-            &mut self.broken,
-        )
+        QueueWire::new(Lent {
+            requests: &mut self.requests,
+            waiting: &mut self.waiting,
+            events: &mut self.events,
+            taken: &mut self.taken,
+            broken: &mut self.broken,
+        })
     }
 }

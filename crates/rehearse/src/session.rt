@@ -1,7 +1,7 @@
 //! A session: one client's objects and a catalogue, call by call.
 
 use crate::command::{Command, NewObject, View};
-use crate::texts::{Mark, Refused, fault_text, said};
+use crate::texts::{Mark, Refused, said};
 use crate::views;
 use map::{DataMark, LocalId, Object, ObjectData, ObjectMap};
 use protocol::catalogue::Core;
@@ -69,10 +69,7 @@ impl Session {
         let serial = self.next_serial();
         match self.objects.insert_at(id, object.with_serial(serial)) {
             Ok(()) => format!(in self.heap; "entered {id} serial {serial}"),
-            Err(fault) => {
-                let fault = fault_text(fault);
-                format!(in self.heap; "not entered: {fault}")
-            }
+            Err(fault) => format!(in self.heap; "not entered: {fault}"),
         }
     }
 
@@ -87,17 +84,12 @@ impl Session {
     fn look(&self, name: LocalId) -> Result<String, AllocError> {
         let id = name.id;
         let found = self.objects.lookup(name);
-        said(
-            self.heap,
-            found
-                .map(|object| Live { id, object })
-                .map_err(|_| "invalid id"),
-        )
+        said(self.heap, found.map(|object| Live { id, object }))
     }
 
     fn set(&mut self, name: LocalId, number: u32) -> Result<String, AllocError> {
         let outcome = self.objects.set_mark(name, DataMark::Number(number));
-        said(self.heap, outcome.map(|()| "set").map_err(|_| "invalid id"))
+        said(self.heap, outcome.map(|()| "set"))
     }
 
     fn remove(&mut self, id: u32) -> Result<String, AllocError> {

@@ -1,13 +1,13 @@
 //! Calls to a wire, and their answers.
 
-use crate::arguments::{Arguments, EMPTY};
+use crate::arguments::Arguments;
 use crate::command::{CELLS, WireCall};
-use crate::texts::{Refused, Waiting, read, said, written};
+use crate::texts::{Refused, said};
 use message::{Event, Message};
 use protocol::argument::ArgumentType;
 use protocol::refusal::Refusal;
 use std::alloc::{AllocError, Global};
-use wire::answers::Writing;
+use wire::answers::WriteError;
 use wire::metered::MeteredWire;
 use wire::queued::{QueueWire, Request};
 use wire::{BODY_BYTES, Wire};
@@ -69,7 +69,7 @@ impl<W: Drop> Over<W> {
         Ok(Over {
             heap,
             wire,
-            message: EMPTY,
+            message: Message::new(),
             body: vec![in heap; 0; BODY_BYTES]?,
         })
     }
@@ -90,14 +90,14 @@ impl<'b, W: Wire + FarSide<'b>> Over<W> {
                 said(heap, outcome.map(|()| "broken").map_err(Refused))
             }
             WireCall::Events(place) => self.events(place),
-            WireCall::Head(place) => Waiting(self.wire.head(place)).to_string(heap),
+            WireCall::Head(place) => self.wire.head(place).to_string(heap),
             WireCall::Read(place, kinds) => self.read(place, &kinds),
             WireCall::Write(place, event) => {
-                let writing = match event {
+                let outcome = match event {
                     Some(event) => self.wire.write(place, &event),
-                    None => Writing::BadSize,
+                    None => Err(WriteError::BadSize),
                 };
-                said(heap, written(writing).map(|()| "taken"))
+                said(heap, outcome.map(|()| "taken"))
             }
             WireCall::Flush(place) => {
                 let carried = self.wire.flush(place);
@@ -111,11 +111,11 @@ impl<'b, W: Wire + FarSide<'b>> Over<W> {
     }
 
     fn read(&mut self, place: usize, kinds: &[ArgumentType]) -> Result<String, AllocError> {
-        let reading = self
+        let outcome = self
             .wire
             .read(place, kinds, &mut self.message, &mut self.body);
-        if let Err(error) = read(reading) {
-            return String::from_str(self.heap, error);
+        if let Err(error) = outcome {
+            return error.to_string(self.heap);
         }
         if self.message.count == 0 {
             return String::from_str(self.heap, "read");

@@ -1,4 +1,2 @@
-mod At
-mod Lines
 mod Laws
 mod QueuedLaws

@@ -1,5 +1,5 @@
 -- What a wire means at one place.
-use Rattle.std.specs.Prelude.{◌≡◌, ℕ, ◌-◌, ◌≤◌, Bool, true, false, cond, List, [], ◌∷◌, ◌++◌, length, Some, None, Option, ◌==◌, nat_lt}
+use Rattle.std.specs.Prelude.{◌≡◌, ℕ, ◌-◌, ◌≤◌, Bool, true, false, cond, List, [], ◌∷◌, ◌++◌, length, Some, None, Option, Ok, Err, Result, ◌==◌, nat_lt}
 use Rattle.protocol.specs.Kinds.{agree}
 use Rattle.protocol.specs.declared.argument.Argument.{Argument}
 use Rattle.protocol.specs.declared.argument.ArgumentType.{ArgumentType}
@@ -10,10 +10,10 @@ use Rattle.message.specs.declared.part.Part.{Part}
 use Rattle.queue.specs.Ring.{front, others}
 use Rattle.wire.specs.declared.answers.Head.{Head}
 use Rattle.wire.specs.declared.answers.Head.TheVariants as head
-use Rattle.wire.specs.declared.answers.Reading.{Reading}
-use Rattle.wire.specs.declared.answers.Reading.TheVariants as reading
-use Rattle.wire.specs.declared.answers.Writing.{Writing}
-use Rattle.wire.specs.declared.answers.Writing.TheVariants as writing
+use Rattle.wire.specs.declared.answers.ReadError.{ReadError}
+use Rattle.wire.specs.declared.answers.ReadError.TheVariants as reading
+use Rattle.wire.specs.declared.answers.WriteError.{WriteError}
+use Rattle.wire.specs.declared.answers.WriteError.TheVariants as writing
 
 -- what a request says: its arguments, and the body that their texts and arrays are parts of
 pub record Content : Type 0 where
@@ -56,17 +56,17 @@ content_of signature (Some w) = w.content signature
 abbrev pub reads : ℕ → List ArgumentType → Line → Option Content
 reads size signature l = cond (nat_lt size 4096) None (content_of signature (front l.requests))
 
-abbrev pub said : Option Content → Reading
-said None = reading.Malformed
-said (Some c) = reading.Done
+abbrev pub said : Option Content → Result (Unit {0}) ReadError
+said None = Err reading.Malformed
+said (Some c) = Ok tt
 
-abbrev pub answered : List ArgumentType → Option Waiting → Reading
-answered signature None = reading.Nothing
+abbrev pub answered : List ArgumentType → Option Waiting → Result (Unit {0}) ReadError
+answered signature None = Err reading.Nothing
 answered signature (Some w) = said (w.content signature)
 
--- short where the buffer is; nothing where no request waits; malformed exactly where the first request is; else done
-abbrev pub read_answer : ℕ → List ArgumentType → Line → Reading
-read_answer size signature l = cond (nat_lt size 4096) reading.Short (answered signature (front l.requests))
+-- short where the buffer is; nothing where no request waits; malformed exactly where the first request is; else it is read
+abbrev pub read_answer : ℕ → List ArgumentType → Line → Result (Unit {0}) ReadError
+read_answer size signature l = cond (nat_lt size 4096) (Err reading.Short) (answered signature (front l.requests))
 
 abbrev pub rest : Option Content → List Waiting → List Waiting
 rest None requests = requests
@@ -98,8 +98,8 @@ Agrees signature None = Unit {0}
 Agrees signature (Some c) = (agree signature c.arguments ≡ true) × (length c.arguments ≤ 8) × (length c.body ≤ 4096)
 
 -- refused exactly at allowance 0; else taken, unless the event is too large
-abbrev pub write_answer : EventModel → Line → Writing
-write_answer e l = cond (l.allowance == 0) writing.Refused (cond (sendable e) writing.Taken writing.BadSize)
+abbrev pub write_answer : EventModel → Line → Result (Unit {0}) WriteError
+write_answer e l = cond (l.allowance == 0) (Err writing.Refused) (cond (sendable e) (Ok tt) (Err writing.BadSize))
 
 abbrev pub with_event : EventModel → Line → Line
 with_event e l = record { requests = l.requests; broken = l.broken; events = l.events ++ e ∷ []; allowance = l.allowance - 1; limit = l.limit }

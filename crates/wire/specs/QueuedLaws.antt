@@ -1,9 +1,9 @@
 -- What goes into a queue wire comes out again, and nothing is called malformed that is not.
-use Rattle.std.specs.Prelude.{◌≡◌, ℕ, ◌≤◌, true, false, List, [], ◌∷◌, ◌++◌, map, length, Some}
+use Rattle.std.specs.Prelude.{◌≡◌, ℕ, ◌≤◌, true, false, List, [], ◌∷◌, ◌++◌, map, length, Some, Err}
 use Rattle.protocol.specs.Kinds.{kind_of}
 use Rattle.protocol.specs.declared.argument.ArgumentType.{ArgumentType}
 use Rattle.message.specs.Meaning.{said}
-use Rattle.wire.specs.declared.answers.Reading.TheVariants.{Malformed}
+use Rattle.wire.specs.declared.answers.ReadError.TheVariants.{Malformed}
 use Rattle.wire.specs.declared.queued.Request.{Request}
 use Rattle.wire.specs.Line.{Line, Waiting, Content, reads, read_answer}
 use Rattle.wire.specs.Queued.{waiting, well_formed, received, fresh}
@@ -25,8 +25,8 @@ pub record QueuedLaws : Type 0 where
   -- the first request is called malformed exactly where its body is over 4,096 bytes, or its arguments are over 8 or differ from
   -- the signature in number or kind
   pub malformed_is : (r : Request) (rest : List Waiting) (l : Line) (size : ℕ) (signature : List ArgumentType) → 4096 ≤ size → l.requests ≡ waiting r ∷ rest
-      → well_formed r signature ≡ false → read_answer size signature l ≡ Malformed
+      → well_formed r signature ≡ false → read_answer size signature l ≡ Err Malformed
   pub malformed_only : (r : Request) (rest : List Waiting) (l : Line) (size : ℕ) (signature : List ArgumentType) → l.requests ≡ waiting r ∷ rest
-      → read_answer size signature l ≡ Malformed → well_formed r signature ≡ false
+      → read_answer size signature l ≡ Err Malformed → well_formed r signature ≡ false
   -- a fresh line takes as many events as it has cells: an event is refused at once only where there is none
   pub limit_is_room : (room : ℕ) → ((fresh room).limit ≡ room) × ((fresh room).allowance ≡ room)

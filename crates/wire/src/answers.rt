@@ -1,7 +1,11 @@
 //! The answers of a wire.
 
+use std::fmt;
+use thiserror::Error;
+
 /// What a line's head tells.
-#[derive(Clone, Copy, PartialEq, Eq)]
+// No Option or Result: one match tells all three states of a line, and none of them is a failure.
+#[derive(Clone, Copy, PartialEq, Eq, Debug)]
 pub enum Head {
     /// the sender and the opcode of the first request that waits
     Request(u32, u16),
@@ -11,26 +15,37 @@ pub enum Head {
     Nothing,
 }
 
-/// What became of a read.
-#[derive(Clone, Copy, PartialEq, Eq)]
-pub enum Reading {
-    /// the first request was read and is off the line
-    Done,
+impl fmt::Display for Head {
+    fn fmt<W: fmt::Write>(&self, f: &mut fmt::Formatter<W>) -> fmt::Result {
+        match *self {
+            Head::Request(sender, opcode) => write!(f, "request {sender} {opcode}"),
+            Head::Broken => write!(f, "broken"),
+            Head::Nothing => write!(f, "nothing"),
+        }
+    }
+}
+
+/// Why nothing was read.
+#[derive(Clone, Copy, PartialEq, Eq, Debug, Error)]
+pub enum ReadError {
     /// the first request has not the form of the signature
+    #[error("malformed")]
     Malformed,
     /// no request waits
+    #[error("nothing")]
     Nothing,
     /// the buffer has fewer than 4,096 bytes
+    #[error("short")]
     Short,
 }
 
-/// What became of a write.
-#[derive(Clone, Copy, PartialEq, Eq)]
-pub enum Writing {
-    /// the event is last on the line
-    Taken,
+/// Why an event was not taken.
+#[derive(Clone, Copy, PartialEq, Eq, Debug, Error)]
+pub enum WriteError {
     /// the allowance is 0
+    #[error("refused")]
     Refused,
     /// the event's texts and arrays have more than 256 bytes together, or a text holds a zero
+    #[error("too large")]
     BadSize,
 }

@@ -15,7 +15,7 @@ ghost use Rattle.queue.specs.Ring.{at_place};
 ghost use Rattle.wire.specs.Line.{Line, head_of, reads, read_answer, read_after, message_after, body_after, Agrees, write_answer, written, carried, flushed, opened};
 ghost use Rattle.wire.specs.Laws.{LineLaws};
 
-use answers::{Head, Reading, Writing};
+use answers::{Head, ReadError, WriteError};
 use message::{Event, Message};
 use protocol::argument::ArgumentType;
 
@@ -31,22 +31,22 @@ pub trait Wire {
         ensures { result ≡ head_of (line self.now place) };
 
     /// Takes the first request off the line, where it has the form of the signature: its arguments go to the message, and its
-    /// body to the front of the buffer. At every other answer nothing changes.
+    /// body to the front of the buffer. At an error nothing changes.
     fn read(
         &mut self,
         place: usize,
         signature: &[ArgumentType],
         message: &mut Message,
         body: &mut [u8],
-    ) -> Reading
+    ) -> Result<(), ReadError>
         ensures answer { result ≡ read_answer (length body.old) signature.now (line self.old place) }
         ensures message { message.new ≡ message_after (reads (length body.old) signature.now (line self.old place)) message.old }
         ensures body { body.new ≡ body_after (reads (length body.old) signature.now (line self.old place)) body.old }
         ensures lines { (p : ℕ) → line self.new p ≡ at_place place (read_after (length body.old) signature.now) (line self.old) p }
         ensures agrees { Agrees signature.now (reads (length body.old) signature.now (line self.old place)) };
 
-    /// Puts an event last on the line, where the allowance lasts.
-    fn write(&mut self, place: usize, event: &Event) -> Writing
+    /// Puts an event last on the line, where the allowance lasts. At an error nothing changes.
+    fn write(&mut self, place: usize, event: &Event) -> Result<(), WriteError>
         ensures answer { result ≡ write_answer (event_of event.now) (line self.old place) }
         ensures lines { (p : ℕ) → line self.new p ≡ at_place place (written (event_of event.now)) (line self.old) p };
 

@@ -4,14 +4,16 @@ ghost use Rattle.std.specs.Prelude.{◌≡◌, ℕ, replicate};
 ghost use Rattle.wire.specs.Metered.{metered};
 
 use crate::Wire;
-use crate::answers::{Head, Reading, Writing};
+use crate::answers::{Head, ReadError, WriteError};
 use message::{Event, Message};
 use protocol::argument::ArgumentType;
 
 /// How many places a metered wire has.
+// Fixed memory, and no Vec: nothing in a call of a wire may allocate.
 pub const METERED_PLACES: usize = 32;
 
 /// A wire that lies on another. It counts, place by place, what is left until the next flush.
+// No get_mut for the counts: tried, and what a field's array holds after one is not known to the check.
 #[derive(Drop)]
 pub struct MeteredWire<W> {
     /// the wire below
@@ -50,25 +52,23 @@ impl<W: Wire> Wire for MeteredWire<W> {
         signature: &[ArgumentType],
         message: &mut Message,
         body: &mut [u8],
-    ) -> Reading {
+    ) -> Result<(), ReadError> {
         if body.len() < crate::BODY_BYTES {
-            return Reading::Short;
+            return Err(ReadError::Short);
         }
         if place >= METERED_PLACES {
-            return Reading::Nothing;
+            return Err(ReadError::Nothing);
         }
         self.wire.read(place, signature, message, body)
     }
 
-    fn write(&mut self, place: usize, event: &Event) -> Writing {
+    fn write(&mut self, place: usize, event: &Event) -> Result<(), WriteError> {
         if place >= METERED_PLACES || self.left[place] == 0 {
-            return Writing::Refused;
+            return Err(WriteError::Refused);
         }
-        let answer = self.wire.write(place, event);
-        if matches!(answer, Writing::Taken) {
-            self.left[place] -= 1;
-        }
-        answer
+        self.wire.write(place, event)?;
+        self.left[place] -= 1;
+        Ok(())
     }
 
     fn flush(&mut self, place: usize) -> usize {

@@ -9,7 +9,7 @@ ghost use Rattle.std.specs.List.{slice_get};
 ghost use Rattle.wire.specs.QueuedLaws.{QueuedLaws};
 ghost use Rattle.wire.specs.Queued.{queue_line, waiting as waiting_of, well_formed, fresh, vacant, admitted, received, broken as broken_line};
 
-use crate::answers::{Head, Reading, Writing};
+use crate::answers::{Head, ReadError, WriteError};
 use crate::{BODY_BYTES, Wire};
 use message::{ARGUMENTS, Event, Message, lay};
 use protocol::argument::{ArgumentType, check_for_signature};
@@ -25,6 +25,18 @@ pub struct Request<'b> {
     pub body: &'b [u8],
 }
 
+/// What a caller lends to a queue wire: cells for the requests and the events of all places, and for each place a mark of the
+/// requests that wait, one of the events that it took, and whether it is broken. What they hold does not matter.
+// Lent memory, and no Vec: nothing in a call of a wire may allocate.
+#[derive(Drop)]
+pub struct Lent<'a, 'b> {
+    pub requests: &'a mut [Request<'b>],
+    pub waiting: &'a mut [Mark],
+    pub events: &'a mut [Event],
+    pub taken: &'a mut [Mark],
+    pub broken: &'a mut [bool],
+}
+
 /// A line for each place. The memory is fixed: what a place takes before the next flush is the cells that it was given.
 #[derive(Drop)]
 pub struct QueueWire<'a, 'b> {
@@ -35,16 +47,17 @@ pub struct QueueWire<'a, 'b> {
 
 impl<'a, 'b> QueueWire<'a, 'b> {
     /// Fresh lines, whatever the memory held: a place for each mark, with the cells divided evenly among them.
-    pub fn new(
-        requests: &'a mut [Request<'b>],
-        waiting: &'a mut [Mark],
-        events: &'a mut [Event],
-        taken: &'a mut [Mark],
-        broken: &'a mut [bool],
-    ) -> QueueWire<'a, 'b>
-        ensures { (p : ℕ) → queue_line result p ≡ fresh (given_room events.old taken.old p) }
+    pub fn new(lent: Lent<'a, 'b>) -> QueueWire<'a, 'b>
+        ensures { (p : ℕ) → queue_line result p ≡ fresh (given_room lent.entry.events.now lent.entry.taken.now p) }
     {
-        mend(broken);
+        let Lent {
+            requests,
+            waiting,
+            events,
+            taken,
+            broken,
+        } = lent;
+        broken.fill(false);
         QueueWire {
             requests: Queues::new(requests, waiting),
             events: Queues::new(events, taken),
@@ -57,10 +70,9 @@ impl<'a, 'b> QueueWire<'a, 'b> {
         ensures answer { result ≡ admitted (vacant self.old place) }
         ensures lines { (p : ℕ) → queue_line self.new p ≡ at_place place (received (vacant self.old place) (waiting_of request.entry)) (queue_line self.old) p }
     {
-        match self.requests.push_back(place, request) {
-            Ok(()) => Ok(()),
-            Err(_) => Err(Refusal::NoVacancy),
-        }
+        self.requests
+            .push_back(place, request)
+            .map_err(|_| Refusal::NoVacancy)
     }
 
     /// Sets the broken mark of a place, or refuses it where there is no such place.
@@ -68,12 +80,12 @@ impl<'a, 'b> QueueWire<'a, 'b> {
         ensures answer { result ≡ admitted (nat_lt place (length self.old.broken.now)) }
         ensures lines { (p : ℕ) → queue_line self.new p ≡ at_place place (broken_line (nat_lt place (length self.old.broken.now))) (queue_line self.old) p }
     {
-        if place < self.broken.len() {
-            self.broken[place] = true;
-            Ok(())
-        } else {
-            Err(Refusal::NoVacancy)
+        // no get_mut: tried in three forms, and what a field's slice holds after one is not known to the check
+        if place >= self.broken.len() {
+            return Err(Refusal::NoVacancy);
         }
+        self.broken[place] = true;
+        Ok(())
     }
 
     /// The event of an index among those that a place took since it was last flushed.
@@ -81,15 +93,6 @@ impl<'a, 'b> QueueWire<'a, 'b> {
         ensures { option_map event_of result ≡ slice_get (queue_line self.now place).events index }
     {
         self.events.get(place, index)
-    }
-}
-
-// No place is broken.
-fn mend(broken: &mut [bool])
-    ensures { (p : ℕ) → slice_index_or broken.new p false ≡ false }
-{
-    for mark in broken.iter_mut() {
-        *mark = false;
     }
 }
 
@@ -109,13 +112,8 @@ impl<'a, 'b> Wire for QueueWire<'a, 'b> {
     fn head(&self, place: usize) -> Head {
         match self.requests.first(place) {
             Some(request) => Head::Request(request.sender, request.opcode),
-            None => {
-                if place < self.broken.len() && self.broken[place] {
-                    Head::Broken
-                } else {
-                    Head::Nothing
-                }
-            }
+            None if self.broken.get(place).copied().unwrap_or(false) => Head::Broken,
+            None => Head::Nothing,
         }
     }
 
@@ -125,31 +123,29 @@ impl<'a, 'b> Wire for QueueWire<'a, 'b> {
         signature: &[ArgumentType],
         message: &mut Message,
         body: &mut [u8],
-    ) -> Reading {
+    ) -> Result<(), ReadError> {
         if body.len() < BODY_BYTES {
-            return Reading::Short;
+            return Err(ReadError::Short);
         }
-        let Some(request) = self.requests.first(place) else {
-            return Reading::Nothing;
-        };
+        let request = self.requests.first(place).ok_or(ReadError::Nothing)?;
         if !is_formed(&request, signature) {
-            return Reading::Malformed;
+            return Err(ReadError::Malformed);
         }
         let _ = self.requests.pop_front(place);
         message.copy_from(request.message.as_slice());
         lay(request.body, body);
-        Reading::Done
+        Ok(())
     }
 
-    fn write(&mut self, place: usize, event: &Event) -> Writing {
+    fn write(&mut self, place: usize, event: &Event) -> Result<(), WriteError> {
         if self.events.len(place) >= self.events.room(place) {
-            return Writing::Refused;
+            return Err(WriteError::Refused);
         }
         if !event.is_sendable() {
-            return Writing::BadSize;
+            return Err(WriteError::BadSize);
         }
         let _ = self.events.push_back(place, *event);
-        Writing::Taken
+        Ok(())
     }
 
     fn flush(&mut self, place: usize) -> usize {
@@ -161,6 +157,7 @@ impl<'a, 'b> Wire for QueueWire<'a, 'b> {
     fn open(&mut self, place: usize) {
         self.requests.clear(place);
         self.events.clear(place);
+        // no get_mut, as in `set_broken`
         if place < self.broken.len() {
             self.broken[place] = false;
         }

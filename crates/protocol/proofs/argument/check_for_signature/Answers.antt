@@ -1,19 +1,17 @@
-use Rattle.std.proofs.Common.{arith}
-use Rattle.protocol.proofs.Agree.{lengths_differ, agree_on, agree_stop, agree_end}
+use Rattle.std.proofs.Common.{rules, ◌∙◌}
+use Rattle.std.proofs.lemmas.Iterator.Search.{all_from_yields_List}
+use Rattle.std.proofs.lemmas.Iterator.{YieldsList-from_slice, YieldsList-from_zip}
+use Rattle.protocol.specs.Kinds.{same_type, kind_of}
+use Rattle.protocol.proofs.Agree.{lengths_differ, agree_zip}
 use Rattle.protocol.proofs.argument.check_for_signature.Goals as goal
 
 pub returns-then-signature-args : goal.returns-then-signature-args
-returns-then-signature-args g c = lengths_differ c.args.signature.now c.args.args.now c.if-signature-args.true
+returns-then-signature-args g c =
+    let kinds = c.args.signature.now in
+    let given = c.args.args.now in
+    all_from_yields_List (λ p. same_type (kind_of p.1) p.0) c.all.new.self _ _ c.all.ensures.ran
+    (YieldsList-from_zip (YieldsList-from_slice {s = c.zip.result.a} kinds cc) (YieldsList-from_slice {s = c.zip.result.b} given cc)) (λ x b q k. search rules)
+    ∙ agree_zip kinds given c.if-signature-args.true
 
-pub returns-then-not-same_type : goal.returns-then-not-same_type
-returns-then-not-same_type g c =
-    agree_stop c.args.signature.now c.args.args.now c.loop-i.i _ c.index-args-i.result c.get_type.result (omega arith) (omega arith)
-    c.index-args-i.is c.get_type.ensures c.if-not-same_type.ensures c.loop-i.invariant
-
-pub loop-i-preserved : goal.loop-i-preserved
-loop-i-preserved g c =
-    agree_on c.args.signature.now c.args.args.now c.loop-i.i _ c.index-args-i.result c.get_type.result (omega arith) (omega arith)
-    c.index-args-i.is c.get_type.ensures c.if-not-same_type.ensures c.loop-i.invariant
-
-pub returns : goal.returns
-returns g c = agree_end c.args.signature.now c.args.args.now c.loop-i.i (omega arith) (omega arith) c.loop-i.invariant
+pub returns-else-signature-args : goal.returns-else-signature-args
+returns-else-signature-args g c = search (rules, lengths_differ)

@@ -1,8 +1,12 @@
-use Rattle.std.proofs.Common.{◌∙◌}
+use Rattle.std.proofs.Common.{rules, sym, ◌∙◌}
+use Rattle.std.proofs.lemmas.Iterator.Search.{all_from_yields_List}
+use Rattle.std.proofs.lemmas.Iterator.{YieldsList-from_slice}
+use Rattle.std.proofs.lemmas.List.Folds.{list_all-map}
 use Rattle.protocol.specs.Model.{said_buf}
 use Rattle.protocol.specs.RowTests.{message_sound}
-use Rattle.protocol.specs.TalliesLemmas.{all_map}
 use Rattle.protocol.proofs.laws.messages_sound.Goals as goal
 
 pub returns : goal.returns
-returns c = c.all_pass.ensures ∙ all_map (message_sound c.args.rows) said_buf c.args.messages.now
+returns c =
+    all_from_yields_List (λ m. message_sound c.args.rows (said_buf m)) _ _ _ c.all.ensures.ran (YieldsList-from_slice c.args.messages.now cc) (λ x b q k. search rules)
+    ∙ sym (list_all-map (message_sound c.args.rows) said_buf c.args.messages.now)

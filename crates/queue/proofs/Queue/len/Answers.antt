@@ -1,9 +1,8 @@
 use Rattle.queue.proofs.Queue.len.Goals as goal
 use Rattle.queue.proofs.Rings.{ring_length}
-use Rattle.queue.specs.declared.Mark.{Mark}
-use Rattle.std.proofs.Common.{sym, ap, ◌∙◌}
+use Rattle.std.proofs.Common.{sym}
 
 pub returns : goal.returns
 returns g c =
     let q = c.args.self.now in
-    ap (λ (m : Mark). m.count) c.mark.ensures ∙ sym (ring_length q.cells.now q.head q.count q.within.1)
+    sym (ring_length q.cells.now q.mark.head q.mark.count q.within.1)

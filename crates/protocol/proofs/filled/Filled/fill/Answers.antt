@@ -1,26 +1,15 @@
-use Rattle.std.proofs.Common.{◌≡◌, ◌+◌, ◌-◌, ◌≤◌, true, leb, vec_items, vec_len, sym, refl, ◌∙◌, subst, arith}
+use Rattle.std.proofs.Common.{◌≡◌, ◌+◌, ◌-◌, ◌≤◌, true, leb, vec_items, vec_len, sym, ◌∙◌, subst, arith}
 use Rattle.std.proofs.lemmas.Bool.{and_parts, leb-true}
 use Rattle.protocol.specs.Filling.{filled_rows}
 use Rattle.protocol.specs.Model.{meant_buf}
 use Rattle.protocol.specs.RowTests.{may_stand}
-use Rattle.protocol.specs.Fillings.{rows_length, no_row, breaks, stands, all_kept, rows_set}
+use Rattle.protocol.specs.Fillings.{rows_length, breaks, stands, all_kept, rows_set}
 use Rattle.protocol.proofs.filled.Filled.fill.Goals as goal
 
-pub returns-then-number-rows : goal.returns-then-number-rows
-returns-then-number-rows c = record {
-  answer =
-      no_row (filled_rows c.args.self.now) _ c.args.number (meant_buf c.args.row)
-      (rows_length (vec_items c.args.self.now.later) c.len.result (c.len.ensures ∙ c.args.self.now.later.ok.0)) c.if-number-rows.true;
-  after = refl;
-}
-
-pub returns-then-not-may_fill : goal.returns-then-not-may_fill
-returns-then-not-may_fill c = record {
-  answer =
-      breaks (filled_rows c.args.self.now) _ c.args.number (meant_buf c.args.row)
-      (rows_length (vec_items c.args.self.now.later) c.len.result (c.len.ensures ∙ c.args.self.now.later.ok.0)) c.if-number-rows.false (sym c.if-not-may_fill.ensures);
-  after = refl;
-}
+pub returns-then-not-may_fill-clause-answer : goal.returns-then-not-may_fill-clause-answer
+returns-then-not-may_fill-clause-answer c =
+    breaks (filled_rows c.args.self.now) _ c.args.number (meant_buf c.args.row)
+    (rows_length (vec_items c.args.self.now.later) c.len.result (c.len.ensures ∙ c.args.self.now.later.ok.0)) c.if-number-rows.false (sym c.if-not-may_fill.ensures)
 
 pub invariant_of-self : goal.invariant_of-self
 invariant_of-self c =

@@ -1,3 +1,0 @@
-mod Left
-mod Fits
-pub mod Laid

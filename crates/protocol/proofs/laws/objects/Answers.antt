@@ -1,0 +1,8 @@
+use Rattle.std.proofs.Common.{rules, ◌≡◌, sym, ◌∙◌}
+use Rattle.std.specs.List.{count_by}
+use Rattle.protocol.specs.Kinds.{is_object}
+use Rattle.protocol.proofs.Counts.{counted}
+use Rattle.protocol.proofs.laws.objects.Goals as goal
+
+pub returns : goal.returns
+returns c = let e : c.count.result ≡ count_by is_object c.args.signature.now = search rules in e ∙ sym (counted is_object c.args.signature.now)
