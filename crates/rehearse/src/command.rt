@@ -105,6 +105,7 @@ impl NewObject {
 #[derive(Debug, Drop, Error)]
 pub enum Mistake {
     /// the first word is no call's
+    // The words of `VERBS` once more: to join them with commas and an `or` takes more lines than the text.
     #[error("expected enter, create, find, look, set, remove, next, catalogue, fill, row, request, event, same, admits, wire, put, break, head, read, write, flush, open or events")]
     Verb,
     /// the words after it are not what that call takes
