@@ -71,8 +71,7 @@ impl<'a, T: Copy> Queues<'a, T> {
         ensures { result ≡ slice_get (items_at self.now place) index }
     {
         let Span { low, high, mark } = self.span(place)?;
-        let cells = &*self.cells;
-        mark.item(&cells[low..high], index).copied()
+        mark.item(&self.cells[low..high], index).copied()
     }
 
     /// The item goes last at the place. It comes back where the place is full or

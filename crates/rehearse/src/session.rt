@@ -3,7 +3,7 @@
 use crate::command::{Command, NewObject, View};
 use crate::texts::{Mark, Refused, said};
 use crate::views;
-use map::{DataMark, LocalId, Object, ObjectData, ObjectMap};
+use map::{DataMark, LocalId, MapFault, Object, ObjectData, ObjectMap};
 use protocol::catalogue::Core;
 use protocol::filled::Filled;
 use protocol::fills::CatalogueError;
@@ -77,7 +77,7 @@ impl Session {
         let serial = self.next_serial();
         match self.objects.server_insert_new(object.with_serial(serial)) {
             Some(id) => format!(in self.heap; "entered {id} serial {serial}"),
-            None => String::from_str(self.heap, "not entered: full"),
+            None => format!(in self.heap; "not entered: {}", MapFault::Full),
         }
     }
 
