@@ -116,13 +116,12 @@ impl<'r, 'b> Script<'r, 'b> {
             message: Message::new(),
             body: &[],
         };
-        let mark = Mark::new();
         let places = plan.places;
         Ok(Memory {
             requests: vec![in heap; request; places.saturating_mul(plan.requests)]?,
-            waiting: vec![in heap; mark; places]?,
+            waiting: vec![in heap; Mark::new(); places]?,
             events: vec![in heap; Event::new(0, 0); places.saturating_mul(plan.events)]?,
-            taken: vec![in heap; mark; places]?,
+            taken: vec![in heap; Mark::new(); places]?,
             broken: vec![in heap; false; places]?,
         })
     }
