@@ -21,7 +21,6 @@ use crate::interface::{Heading, MessageBuf, MessageDesc, same_name};
 pub const ANONYMOUS_ROW: u32 = 0;
 
 /// A list of rows that keeps the laws. Every answer comes from that list, and is none exactly past an end.
-// Requests and events are asked for by two methods: a direction passed as a value would be matched in every answer, which is no plainer.
 pub trait Catalogue {
     ghost rows: { Self → List RowModel };
 

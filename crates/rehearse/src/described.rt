@@ -7,6 +7,9 @@ use protocol::argument::ArgumentType;
 use protocol::interface::{InterfaceBuf, MessageBuf};
 use std::alloc::Global;
 
+// The most messages that a line can describe. A row takes 16 of each direction; more are read, and the catalogue refuses them.
+const MESSAGES: usize = 65_534;
+
 /// The interface of the words that are left.
 pub fn interface(heap: Global, words: &mut Words<'_>) -> Result<InterfaceBuf, Misread> {
     let mut row = InterfaceBuf {
@@ -16,6 +19,9 @@ pub fn interface(heap: Global, words: &mut Words<'_>) -> Result<InterfaceBuf, Mi
         events: Vec::new(heap),
     };
     let described: Vec<&str> = words.map(|(_, word)| word).collect(heap)?;
+    if described.len() > 6 * MESSAGES {
+        return Err(Misread::Words);
+    }
     for words in described.chunks(6) {
         match words {
             ["request", request @ ..] => row.requests.push(message(heap, request)?)?,
