@@ -1,18 +1,18 @@
-mod Living
-mod Books
-mod Turns
-mod Maps
-mod Seats
-mod Kept
-mod Walks
-mod Steps
-mod Checked
-mod Runs
-mod Same
-mod Calls
-mod Along
-mod Ties
-mod StepTies
-mod RunTies
-mod Shown
-mod Agrees
+pub mod Living
+pub mod Books
+pub mod Turns
+pub mod Maps
+pub mod Seats
+pub mod Kept
+pub mod Walks
+pub mod Steps
+pub mod Checked
+pub mod Runs
+pub mod Same
+pub mod Calls
+pub mod Along
+pub mod Ties
+pub mod StepTies
+pub mod RunTies
+pub mod Shown
+pub mod Agrees
