@@ -13,7 +13,7 @@ pub struct StepError {
     pub fault: StepFault,
     /// the object that the request had entered before the fault
     pub entered: Option<ObjectId>,
-    /// how many bytes of the text buffer the error's text has
+    /// how many bytes of the text buffer the error's text has; the buffer is lent, so the answer holds no text
     pub text: usize,
 }
 

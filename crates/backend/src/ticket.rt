@@ -37,7 +37,7 @@ pub struct Making {
 }
 
 /// What is outstanding: at most one ticket.
-// No Option: one match tells nothing, plain and making apart, where an Option of two cases would take two.
+// No Option round a type of two cases: that would be a second type, for what these three cases say.
 #[derive(Clone, Copy, PartialEq, Eq, Debug)]
 pub enum Outstanding {
     Nothing,

@@ -19,10 +19,8 @@ fn counts_of_rows(rt: HostRuntime) -> Result<(), Fail> {
         }
     }
     for rows in [4, 64] {
-        match Filled::new(rt.alloc(), rows) {
-            Ok(made) => assert!(rt; made.heading(rows).is_none()),
-            Err(_) => return Err(Fail::new("refused")),
-        }
+        let made = Filled::new(rt.alloc(), rows)?;
+        assert!(rt; made.heading(rows).is_none());
     }
     Ok(())
 }
@@ -85,18 +83,16 @@ fn names_tell_interfaces(rt: HostRuntime) -> Result<(), Fail> {
         same_interface_or_anonymous(&made, 0, 4) && !same_interface_or_anonymous(&made, 4, 0)
     );
     assert_eq!(rt;
-        refused(&mut made, 5, row(rt.alloc(), b"film_lamp", 0, NONE)?),
-        0
+        filled(&mut made, 5, row(rt.alloc(), b"film_lamp", 0, NONE)?),
+        Ok(())
     );
     assert!(rt; !same_interface(&made, 4, 5));
     Ok(())
 }
 
-// The number of the refusal, or 0 where the row is filled.
-fn refused(made: &mut Filled, number: u32, row: InterfaceBuf) -> u8 {
-    made.fill(number, row)
-        .err()
-        .map_or(0, |refusal| refusal.number())
+// Fills a row, or answers the number of the refusal.
+fn filled(made: &mut Filled, number: u32, row: InterfaceBuf) -> Result<(), u8> {
+    made.fill(number, row).map_err(|refusal| refusal.number())
 }
 
 #[test]
@@ -104,13 +100,13 @@ fn rows_that_cannot_be_filled(rt: HostRuntime) -> Result<(), Fail> {
     let mut made = panels(rt.alloc())?;
     for core in [0, 1, 2, 3] {
         assert_eq!(rt;
-            refused(&mut made, core, row(rt.alloc(), b"film_lamp", 0, NONE)?),
-            19
+            filled(&mut made, core, row(rt.alloc(), b"film_lamp", 0, NONE)?),
+            Err(19)
         );
     }
     assert_eq!(rt;
-        refused(&mut made, 6, row(rt.alloc(), b"film_lamp", 0, NONE)?),
-        14
+        filled(&mut made, 6, row(rt.alloc(), b"film_lamp", 0, NONE)?),
+        Err(14)
     );
     Ok(())
 }
@@ -119,13 +115,16 @@ fn rows_that_cannot_be_filled(rt: HostRuntime) -> Result<(), Fail> {
 fn names_that_break_a_law(rt: HostRuntime) -> Result<(), Fail> {
     let mut made = panels(rt.alloc())?;
     for name in BAD_NAMES {
-        assert_eq!(rt; refused(&mut made, 4, row(rt.alloc(), name, 0, NONE)?), 19);
+        assert_eq!(rt;
+            filled(&mut made, 4, row(rt.alloc(), name, 0, NONE)?),
+            Err(19)
+        );
     }
     // nothing changed, and the longest name is taken
     assert!(rt; same_interface(&made, 4, 5));
     assert_eq!(rt;
-        refused(&mut made, 4, row(rt.alloc(), LONGEST, 0, NONE)?),
-        0
+        filled(&mut made, 4, row(rt.alloc(), LONGEST, 0, NONE)?),
+        Ok(())
     );
     Ok(())
 }
@@ -135,17 +134,17 @@ fn messages_that_break_a_law(rt: HostRuntime) -> Result<(), Fail> {
     let mut made = panels(rt.alloc())?;
     for broken in BROKEN {
         assert_eq!(rt;
-            refused(&mut made, 4, row(rt.alloc(), b"film_lamp", 1, broken)?),
-            19
+            filled(&mut made, 4, row(rt.alloc(), b"film_lamp", 1, broken)?),
+            Err(19)
         );
     }
     assert_eq!(rt;
-        refused(&mut made, 4, row(rt.alloc(), b"film_lamp", 17, CONFIRM)?),
-        19
+        filled(&mut made, 4, row(rt.alloc(), b"film_lamp", 17, CONFIRM)?),
+        Err(19)
     );
     assert_eq!(rt;
-        refused(&mut made, 4, row(rt.alloc(), b"film_lamp", 1, WIDEST)?),
-        0
+        filled(&mut made, 4, row(rt.alloc(), b"film_lamp", 1, WIDEST)?),
+        Ok(())
     );
     Ok(())
 }

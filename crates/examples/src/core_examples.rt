@@ -4,12 +4,19 @@ use protocol::argument::{AllowNull, ArgumentType};
 use protocol::catalogue::{Catalogue, Core};
 use protocol::interface::{Heading, MessageDesc};
 
+/// Whether a message is a request or an event.
+#[derive(Clone, Copy)]
+pub(crate) enum Direction {
+    Request,
+    Event,
+}
+
 /// A message as wayland.xml describes it.
 #[derive(Clone, Copy)]
 pub(crate) struct Described {
     pub row: u32,
     pub opcode: u16,
-    pub event: bool,
+    pub direction: Direction,
     pub name: &'static [u8],
     pub destructor: bool,
     pub signature: &'static [ArgumentType],
@@ -20,7 +27,7 @@ pub(crate) struct Described {
 pub(crate) const NONE: Described = Described {
     row: 0,
     opcode: 0,
-    event: false,
+    direction: Direction::Request,
     name: b"",
     destructor: false,
     signature: &[],
@@ -49,7 +56,7 @@ const WAYLAND_XML: [Described; 8] = [
     },
     Described {
         row: 1,
-        event: true,
+        direction: Direction::Event,
         name: b"error",
         signature: &[
             ArgumentType::Object(AllowNull::No),
@@ -62,7 +69,7 @@ const WAYLAND_XML: [Described; 8] = [
     Described {
         row: 1,
         opcode: 1,
-        event: true,
+        direction: Direction::Event,
         name: b"delete_id",
         signature: &[ArgumentType::Uint],
         ..NONE
@@ -80,7 +87,7 @@ const WAYLAND_XML: [Described; 8] = [
     },
     Described {
         row: 2,
-        event: true,
+        direction: Direction::Event,
         name: b"global",
         signature: &[
             ArgumentType::Uint,
@@ -92,14 +99,14 @@ const WAYLAND_XML: [Described; 8] = [
     Described {
         row: 2,
         opcode: 1,
-        event: true,
+        direction: Direction::Event,
         name: b"global_remove",
         signature: &[ArgumentType::Uint],
         ..NONE
     },
     Described {
         row: 3,
-        event: true,
+        direction: Direction::Event,
         name: b"done",
         destructor: true,
         signature: &[ArgumentType::Uint],
@@ -121,10 +128,9 @@ pub(crate) fn is_as_described(message: MessageDesc<'_>, described: Described) ->
 
 fn core_has(described: Described) -> bool {
     let core = Core {};
-    let message = if described.event {
-        core.event(described.row, described.opcode)
-    } else {
-        core.request(described.row, described.opcode)
+    let message = match described.direction {
+        Direction::Request => core.request(described.row, described.opcode),
+        Direction::Event => core.event(described.row, described.opcode),
     };
     message.is_some_and(|message| is_as_described(message, described))
 }

@@ -38,6 +38,7 @@ impl From<PlaceFault> for MapFault {
     }
 }
 
+// By hand, both: a derived text has no clause, and these are proved.
 impl fmt::Display for MapFault {
     ghost output = { λ e. Some (text_of e) };
 

@@ -83,9 +83,11 @@ impl<D: Copy> ObjectMap<D> {
         if id == 0 {
             None
         } else if id < SERVER_ID_LIMIT {
-            self.client_objects.get((id - 1) as usize)
+            self.client_objects.get((id - 1) as usize).copied()
         } else {
-            self.server_objects.get((id - SERVER_ID_LIMIT) as usize)
+            self.server_objects
+                .get((id - SERVER_ID_LIMIT) as usize)
+                .copied()
         }
     }
 
@@ -120,9 +122,7 @@ impl<D: Copy> ObjectMap<D> {
                 .replace((id - SERVER_ID_LIMIT) as usize, place);
         }
     }
-}
 
-impl<D: Copy> ObjectMap<D> {
     /// Enters an object at an id, or leaves the map as it was.
     pub fn insert_at(&mut self, id: u32, object: Object<D>) -> Result<(), MapFault>
         ensures answer { result ≡ insert_answer self.old id }

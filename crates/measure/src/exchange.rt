@@ -10,8 +10,7 @@ use wire::{BODY_BYTES, Wire};
 // A message with one argument.
 fn one(argument: Argument<u32, Part>) -> Message {
     let mut message = Message::new();
-    message.arguments[0] = argument;
-    message.count = 1;
+    message.copy_from(&[argument]);
     message
 }
 

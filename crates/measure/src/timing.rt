@@ -11,12 +11,9 @@ const TURNS: u32 = 200_000;
 pub fn time_calls<W: Wire>(rt: &HostRuntime, wire: &mut W, name: &str) -> anyhow::Result<()> {
     let start = Instant::now(rt)?;
     // the answers are counted at changing places, so that the loop is not left out
-    let mut broken: u32 = 0;
-    for turn in 0..TURNS {
-        if matches!(wire.head((turn & 3) as usize), Head::Broken) {
-            broken = broken.saturating_add(1);
-        }
-    }
+    let broken = (0..TURNS)
+        .filter(|turn| wire.head((turn & 3) as usize) == Head::Broken)
+        .count();
     let heads = start.elapsed(rt)?.as_nanos() / u128::from(TURNS);
     let sent = event(1);
     let start = Instant::now(rt)?;

@@ -69,8 +69,7 @@ fn weight(argument: Argument<u32, Part>, bytes: &[u8]) -> usize
     ensures within { result ≤ length bytes.now }
 {
     match argument {
-        Argument::Str(Some(part)) => bytes_of(bytes, part).len(),
-        Argument::Array(part) => bytes_of(bytes, part).len(),
+        Argument::Str(Some(part)) | Argument::Array(part) => bytes_of(bytes, part).len(),
         _ => 0,
     }
 }

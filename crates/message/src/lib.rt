@@ -16,11 +16,9 @@ pub use copies::lay;
 pub use event::{EVENT_BYTES, Event};
 use part::front_of;
 pub use part::{Part, bytes_of};
+pub use protocol::argument::ARGUMENTS;
 use protocol::argument::Argument;
 pub use reader::{Reader, reader_laws};
-
-/// The most arguments of a message.
-pub const ARGUMENTS: usize = 8;
 
 /// The first `count` arguments, of at most eight; texts and arrays are parts of a body that is kept beside them.
 ///

@@ -9,6 +9,7 @@ use crate::{Message, Part, bytes_of};
 use protocol::argument::Argument;
 
 /// What is left of a message to read. Texts and arrays come out as parts of the body that it holds.
+// The message is held by value, as callers read over it: so what was read is counted, and no slice of the message is kept.
 #[derive(Clone, Copy, Debug, PartialEq, Eq)]
 pub struct Reader<'a> {
     message: Message,

@@ -23,6 +23,7 @@ pub enum PlaceFault {
 }
 
 // The places are lent, as the rules ask of a table of any kind, and so their length comes beside them; `Table` holds both.
+// That an answer is a place of the table (`within`) is said of each answer, since no field holds it.
 
 /// What a place holds; past the capacity nothing.
 pub fn look_at<T: Copy>(places: &[Option<T>], index: usize) -> Option<T>
@@ -42,6 +43,7 @@ pub fn put<T: Drop>(places: &mut [Option<T>], index: usize, place: Option<T>)
 }
 
 /// Takes out what a place holds; past the capacity nothing.
+// By index, as `put`.
 pub fn take<T: Drop>(places: &mut [Option<T>], index: usize) -> Option<T>
     ensures answer { result ≡ at places.old index }
     ensures after { places.new ≡ slice_set places.old index None }
@@ -53,7 +55,7 @@ pub fn take<T: Drop>(places: &mut [Option<T>], index: usize) -> Option<T>
     }
 }
 
-// The first vacant place of some.
+// The first vacant place of some. It and the next function differ in the test alone: each is one call of the library's search.
 fn vacant_among<T>(places: &[Option<T>]) -> Option<usize>
     ensures answer { result ≡ position (λ place. not (is_some place)) places.now }
     ensures within { IfSome result (λ i. i < length places.now) }

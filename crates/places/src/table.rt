@@ -1,10 +1,11 @@
 //! A table with its own places.
 
-ghost use Rattle.std.specs.Prelude.{◌≡◌, ◌<◌, length, IfSome};
+ghost use Rattle.std.specs.Prelude.{◌≡◌, ◌<◌, IfSome};
+ghost use Rattle.std.specs.Option.{option_map};
 ghost use Rattle.places.specs.Places.{at, entry_at, first_vacant, occupied_from};
 ghost use Rattle.places.specs.Tables.{empty_table, entered_at, entered_new, replaced};
 
-use super::{PlaceFault, enter_at, enter_new, first_occupied, holds, look_at};
+use super::{PlaceFault, enter_at, enter_new, first_occupied, holds, put};
 
 /// A table of `N` places. The capacity is fixed, since *full* is an answer of the rules, and `len` is not how many
 /// records there are, but how many places were ever used.
@@ -14,32 +15,30 @@ pub struct Table<T, const N: usize> {
     pub len: usize,
 }
 
-impl<T: Copy, const N: usize> Table<T, N> {
+impl<T: Drop, const N: usize> Table<T, N> {
     /// A table where no place was ever used.
     pub fn new() -> Self
         ensures { result ≡ empty_table N }
     {
         Table {
-            places: [None; N],
+            places: [const { None }; N],
             len: 0,
         }
     }
 
     /// What a place holds; past the capacity nothing.
-    pub fn get(&self, index: usize) -> Option<T>
-        ensures { result ≡ at self.now.places index }
+    pub fn get(&self, index: usize) -> Option<&T>
+        ensures { option_map (λ r. r.now) result ≡ at self.now.places index }
     {
-        look_at(&self.places, index)
+        self.places.get(index)?.as_ref()
     }
-}
 
-impl<T: Drop, const N: usize> Table<T, N> {
     /// Fills anew or vacates an occupied place; any other stays as it is.
     pub fn replace(&mut self, index: usize, place: Option<T>)
         ensures { self.new ≡ replaced self.old index place }
     {
         if holds(&self.places, index) {
-            self.places[index] = place;
+            put(&mut self.places, index, place);
         }
     }
 

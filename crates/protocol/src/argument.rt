@@ -3,6 +3,9 @@
 ghost use Rattle.std.specs.Prelude.{◌≡◌};
 ghost use Rattle.protocol.specs.Kinds.{same_type, unmarked, kind_of, agree};
 
+/// The most arguments of a message.
+pub const ARGUMENTS: usize = 8;
+
 /// Whether an argument may be null.
 #[derive(Clone, Copy, Debug, PartialEq, Eq)]
 pub enum AllowNull {

@@ -24,7 +24,7 @@ pub const ANONYMOUS_ROW: u32 = 0;
 pub trait Catalogue {
     ghost rows: { Self → List RowModel };
 
-    // A caller asks for a request or an event, so both are methods, and an impl's two bodies differ in one field.
+    // Two methods, and no direction passed as a value: that would be one more type and a match in each implementation.
 
     /// The name and version of a row.
     fn heading<'s>(&'s self, row: u32) -> Option<Heading<'s>>

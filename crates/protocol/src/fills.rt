@@ -47,6 +47,7 @@ impl From<AllocError> for CatalogueError {
     }
 }
 
+// By hand, as `Refusal`: the text is proved.
 impl fmt::Display for CatalogueError {
     ghost output = { λ e. Some (catalogue_text_of e) };
 
@@ -75,6 +76,7 @@ fn blank(heap: Global) -> Result<InterfaceBuf, AllocError>
 fn blanks(heap: Global, count: u32) -> Result<Vec<InterfaceBuf>, AllocError>
     ensures { IfOk result (λ v. map meant_buf v.items ≡ replicate count blank_row) }
 {
+    // a loop: what is collected from a closure that can fail is not known to the check
     let mut rows = Vec::new(heap);
     for _ in 0..count {
         rows.push(blank(heap)?)?;
@@ -114,6 +116,7 @@ impl Filled {
         if !may_fill(number, &row, rows) {
             return Err(Refusal::BreaksLaw);
         }
+        // by index: what a field's rows hold after a get_mut is not known to the check
         self.later[(number - CORE_ROWS) as usize] = row;
         Ok(())
     }

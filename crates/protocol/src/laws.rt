@@ -6,7 +6,7 @@ ghost use Rattle.protocol.specs.Model.{said, said_buf, meant_buf};
 ghost use Rattle.protocol.specs.RowTests.{named, message_sound, row_sound, makes_named, is_fresh, may_stand};
 ghost use Rattle.protocol.specs.Tallies.{all, count};
 
-use crate::argument::ArgumentType;
+use crate::argument::{ARGUMENTS, ArgumentType};
 use crate::core_interfaces::CORE;
 use crate::interface::{InterfaceBuf, MessageBuf, MessageDesc, same_name};
 
@@ -14,8 +14,6 @@ use crate::interface::{InterfaceBuf, MessageBuf, MessageDesc, same_name};
 const NAME_BYTES: usize = 32;
 /// The most messages of one direction in a row.
 const MESSAGES: usize = 16;
-/// The most arguments of a message.
-const ARGUMENTS: usize = 8;
 
 fn is_named(name: &[u8]) -> bool
     ensures { result ≡ named name.now }
@@ -23,6 +21,7 @@ fn is_named(name: &[u8]) -> bool
     !name.is_empty() && name.len() <= NAME_BYTES && name.iter().all(|byte| *byte > 0)
 }
 
+// How many arguments are objects. It and the next function differ in the test alone: each is one chain, for a contract to name.
 fn objects(signature: &[ArgumentType]) -> usize
     ensures { result ≡ count is_object signature.now }
 {

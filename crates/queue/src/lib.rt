@@ -33,7 +33,7 @@ pub struct Mark {
 /// One queue. Its items lie from the cell `head` of its mark on, and past the last
 /// cell they go on at the first, so that no item moves while it waits.
 // Lent cells with a mark beside them, and no VecDeque: nothing here may allocate.
-// Methods say one by one that room and lender stay: a ghost field or a model speaks of one state, and a model would hide the `&mut` whose loan callers follow.
+// Methods say one by one that room and lender stay: a ghost field speaks of one state, and a model would hide the loan.
 #[derive(Drop)]
 pub struct Queue<'a, T> {
     cells: &'a mut [T],

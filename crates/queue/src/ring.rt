@@ -23,6 +23,7 @@ fn step(room: usize, head: usize, index: usize) -> usize
     }
 }
 
+// A mark alone is lent by callers and may be anything, so that it fits the cells is asked here, and is `Queue`'s invariant.
 impl Mark {
     /// The mark of a queue with no items.
     pub fn new() -> Mark
@@ -39,7 +40,7 @@ impl Mark {
         self.count <= width && (self.head < width || width == 0)
     }
 
-    // The item that has `index` items before it.
+    // The item that has `index` items before it. The index is tested by hand, since a ring is no slice that could be asked.
     pub(crate) fn item<'b, T>(self, cells: &'b [T], index: usize) -> Option<&'b T>
         requires { Sound (length cells.now) self }
         ensures { option_map (λ x. x.now) result ≡ slice_get (marked cells.now self) index }
@@ -65,7 +66,8 @@ impl Mark {
         Ok(())
     }
 
-    // The first item, which leaves. The cells are only read: they come as `&mut` because of a part that a method lends as `&` too little is known after.
+    // The first item, which leaves. The cells are only read, but come as `&mut`: after a part of a field's slice is lent as `&`, too
+    // little of it is known.
     pub(crate) fn pop<T: Copy>(&mut self, cells: &mut [T]) -> Option<T>
         requires { Sound (length cells.old) self.old }
         ensures sound { Sound (length cells.old) self.new }

@@ -1,7 +1,6 @@
 //! A row of queues in one slice, each in a part of its own.
 
-ghost use Rattle.std.specs.Prelude.{◌≡◌, ℕ, ◌/◌, [], length as size, replicate, if◌then◌else◌, Ok, Err, nat_lt};
-ghost use Rattle.queue.specs.Marks.{Sound, sound, marked, fresh};
+ghost use Rattle.std.specs.Prelude.{◌≡◌, ℕ, ◌/◌, [], length as size, if◌then◌else◌, Ok, Err, nat_lt};
 ghost use Rattle.queue.specs.Ring.{front, others, within_room, at_place};
 ghost use Rattle.queue.specs.Rows.{items_at, room_at, given_room, seat, share};
 ghost use Rattle.queue.specs.Spans.{Found};

@@ -177,19 +177,20 @@ fn new_plan(words: &mut Words<'_>) -> Result<Plan, Misread> {
     })
 }
 
+// A place, a sender and an opcode.
+fn address(words: &mut Words<'_>) -> Result<(usize, u32, u16), Misread> {
+    Ok((words.place()?, words.number()?, words.opcode()?))
+}
+
 fn put(words: &mut Words<'_>) -> Result<WireCall, Misread> {
-    let place = words.place()?;
-    let sender = words.number()?;
-    let opcode = words.opcode()?;
+    let (place, sender, opcode) = address(words)?;
     let message = arguments_of(words)?.ok_or(Misread::Words)?;
     Ok(WireCall::Put(place, sender, opcode, message))
 }
 
 // What is left of the line does not matter where the arguments are too many.
 fn write(words: &mut Words<'_>) -> Result<WireCall, Misread> {
-    let place = words.place()?;
-    let sender = words.number()?;
-    let opcode = words.opcode()?;
+    let (place, sender, opcode) = address(words)?;
     let line = words.line().as_bytes();
     let event = arguments_of(words)?.and_then(|message| event_of(sender, opcode, message, line));
     Ok(WireCall::Write(place, event))

@@ -93,6 +93,7 @@ impl<'r, 'b> Script<'r, 'b> {
             events,
             ..
         } = plan;
+        // twice the same steps, since the two wires have different types
         match own {
             None => {
                 let mut over = Over::new(heap, wire)?;
@@ -128,7 +129,7 @@ impl<'r, 'b> Script<'r, 'b> {
     }
 }
 
-// What a queue wire borrows.
+// What a queue wire borrows. `measure` has the like, of other sizes: a crate for the two would be longer than both.
 #[derive(Drop)]
 struct Memory<'b> {
     requests: Vec<Request<'b>>,

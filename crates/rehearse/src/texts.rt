@@ -64,20 +64,25 @@ impl<'a> fmt::Display for Name<'a> {
 #[derive(Clone, Copy)]
 pub struct Kind(pub ArgumentType);
 
+const KINDS: [(&str, ArgumentType); 10] = [
+    ("int", ArgumentType::Int),
+    ("uint", ArgumentType::Uint),
+    ("fixed", ArgumentType::Fixed),
+    ("str", ArgumentType::Str(AllowNull::No)),
+    ("str?", ArgumentType::Str(AllowNull::Yes)),
+    ("object", ArgumentType::Object(AllowNull::No)),
+    ("object?", ArgumentType::Object(AllowNull::Yes)),
+    ("new_id", ArgumentType::NewId),
+    ("array", ArgumentType::Array),
+    ("fd", ArgumentType::Fd),
+];
+
 impl fmt::Display for Kind {
     fn fmt<W: fmt::Write>(&self, f: &mut fmt::Formatter<W>) -> fmt::Result {
-        f.write_str(match self.0 {
-            ArgumentType::Int => "int",
-            ArgumentType::Uint => "uint",
-            ArgumentType::Fixed => "fixed",
-            ArgumentType::Str(AllowNull::No) => "str",
-            ArgumentType::Str(AllowNull::Yes) => "str?",
-            ArgumentType::Object(AllowNull::No) => "object",
-            ArgumentType::Object(AllowNull::Yes) => "object?",
-            ArgumentType::NewId => "new_id",
-            ArgumentType::Array => "array",
-            ArgumentType::Fd => "fd",
-        })
+        match KINDS.iter().find(|(_, kind)| *kind == self.0) {
+            Some((name, _)) => f.write_str(name),
+            None => Ok(()),
+        }
     }
 }
 
@@ -85,18 +90,9 @@ impl FromStr for Kind {
     type Err = Misread;
 
     fn from_str(word: &str) -> Result<Kind, Misread> {
-        Ok(Kind(match word {
-            "int" => ArgumentType::Int,
-            "uint" => ArgumentType::Uint,
-            "fixed" => ArgumentType::Fixed,
-            "str" => ArgumentType::Str(AllowNull::No),
-            "str?" => ArgumentType::Str(AllowNull::Yes),
-            "object" => ArgumentType::Object(AllowNull::No),
-            "object?" => ArgumentType::Object(AllowNull::Yes),
-            "new_id" => ArgumentType::NewId,
-            "array" => ArgumentType::Array,
-            "fd" => ArgumentType::Fd,
-            _ => return Err(Misread::Words),
-        }))
+        match KINDS.iter().find(|(name, _)| *name == word) {
+            Some((_, kind)) => Ok(Kind(*kind)),
+            None => Err(Misread::Words),
+        }
     }
 }

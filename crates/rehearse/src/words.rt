@@ -15,6 +15,7 @@ pub enum Misread {
     NoMemory,
 }
 
+// By hand, both: a derived one keeps the error that it comes from, and there is nothing in this to keep.
 impl From<AllocError> for Misread {
     fn from(_: AllocError) -> Misread {
         Misread::NoMemory
@@ -81,9 +82,12 @@ impl<'a> Words<'a> {
 
     /// A number of at least `least` and at most `most`.
     pub fn between(&mut self, least: usize, most: usize) -> Result<usize, Misread> {
-        Some(self.place()?)
-            .filter(|number| (least..=most).contains(number))
-            .ok_or(Misread::Words)
+        let number = self.place()?;
+        if (least..=most).contains(&number) {
+            Ok(number)
+        } else {
+            Err(Misread::Words)
+        }
     }
 
     /// What is kept with an object: `own`, `awaited` or a number.

@@ -15,12 +15,13 @@ pub enum Head {
     Nothing,
 }
 
+// By hand: a derived text is for errors, and this is none.
 impl fmt::Display for Head {
     fn fmt<W: fmt::Write>(&self, f: &mut fmt::Formatter<W>) -> fmt::Result {
         match *self {
             Head::Request(sender, opcode) => write!(f, "request {sender} {opcode}"),
-            Head::Broken => write!(f, "broken"),
-            Head::Nothing => write!(f, "nothing"),
+            Head::Broken => f.write_str("broken"),
+            Head::Nothing => f.write_str("nothing"),
         }
     }
 }

@@ -1,6 +1,6 @@
 //! The queue wire: requests and events in memory that the caller lends.
 
-ghost use Rattle.std.specs.Prelude.{◌≡◌, ℕ, false, length, nat_lt, slice_index_or};
+ghost use Rattle.std.specs.Prelude.{◌≡◌, ℕ, length, nat_lt};
 ghost use Rattle.message.specs.Events.{event_of};
 ghost use Rattle.queue.specs.Ring.{at_place};
 ghost use Rattle.queue.specs.Rows.{given_room};
