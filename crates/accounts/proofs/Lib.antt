@@ -16,3 +16,4 @@ pub mod StepTies
 pub mod RunTies
 pub mod Shown
 pub mod Agrees
+pub mod Hollow

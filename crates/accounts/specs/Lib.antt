@@ -3,3 +3,4 @@ pub mod Shown
 pub mod Accounts
 pub mod Tied
 pub mod Whole
+pub mod Told
