@@ -1,0 +1,4 @@
+use Rattle.engine_laws.specs.Cases.{CasesStand}
+
+pub cases : CasesStand
+cases = ?
