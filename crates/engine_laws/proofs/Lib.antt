@@ -1,1 +1,3 @@
+mod Sits
+mod Asked
 mod Worked
