@@ -1,3 +1,4 @@
 mod Sits
 mod Asked
+mod Failing
 mod Worked
