@@ -1,4 +1,5 @@
 mod Sits
 mod Asked
 mod Failing
+mod Entering
 mod Worked
