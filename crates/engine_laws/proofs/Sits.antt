@@ -56,6 +56,14 @@ sits_admitted t d w c e free = go (first_vacant w.engine.store.clients.places w.
         let same : new_client_id p w ≡ c = cc in
         subst (λ (x : ClientId). Sits (admit_world d p w) x (newcomer x.serial d) (opened (w.lines x.place))) same (sits_new d p w q free)
 
+-- an admission is nothing to the registry
+pub registry_stays : (t : Terms) (d : ℕ) (w : World) → (perform t (admit d) w).run.world.engine.registry ≡ w.engine.registry
+registry_stays t d w = go (first_vacant w.engine.store.clients.places w.engine.store.clients.len)
+  where
+    go : (v : Option ℕ) → (checked admitted (present v NoVacancy) w (admit_act d w)).run.world.engine.registry ≡ w.engine.registry
+    go None = refl
+    go (Some p) = refl
+
 -- a request that comes to the line
 pub sits_asking : {w : World} {c : ClientId} {k : Client} {l : Line} (more : List Waiting) → Sits w c k l → Sits (on_line c.place (gained more) w) c k (gained more l)
 sits_asking {w} {c} {k} {l} more s = record {
