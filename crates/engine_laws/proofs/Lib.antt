@@ -1,8 +1,8 @@
-mod Sits
-mod Asked
-mod Failing
-mod Entering
-mod Halves
-mod Synced
-mod Newer
+mod CaseSits
+mod CaseAsked
+mod CaseFailing
+mod CaseEntering
+mod CaseHalves
+mod CaseSynced
+mod CaseNewer
 mod Worked

@@ -1,22 +1,21 @@
 -- The worked cases.
-use Rattle.std.proofs.Common.{◌≡◌, ℕ, suc, ◌+◌, ◌-◌, ◌≤◌, Bool, true, false, eqb, ltb, List, [], ◌∷◌, ◌++◌, is_some, Some, None, Ok, Err, Option, Result, sym, refl, ap, ◌∙◌, subst, arith}
+use Rattle.std.proofs.Common.{◌≡◌, ℕ, ◌+◌, ◌-◌, ◌≤◌, true, false, eqb, List, [], ◌∷◌, ◌++◌, is_some, Some, None, Ok, Err, Result, sym, refl, ap, ◌∙◌, subst, arith}
 use Rattle.std.proofs.lemmas.Bool.{ne_eqb}
 use Rattle.std.proofs.lemmas.Fmt.{decimal_digit, decimal_step}
-use Rattle.std.specs.Prelude.{codes, decimal}
+use Rattle.std.specs.Prelude.{codes}
 use Rattle.map.specs.declared.fault.MapFault.{MapFault}
 use Rattle.map.specs.declared.fault.MapFault.TheVariants.{Beyond, Taken, Full}
 use Rattle.map.specs.declared.ObjectData.{ObjectData}
 use Rattle.map.specs.declared.ObjectMap.{ObjectMap}
-use Rattle.map.specs.Map.{empty_map, find_in, insert_answer, inserted}
+use Rattle.map.specs.Map.{empty_map, insert_answer, inserted}
 use Rattle.map.specs.declared.DataMark.TheVariants.{Number}
 use Rattle.protocol.specs.declared.argument.Argument.{Argument}
-use Rattle.protocol.specs.Lawful.{Lawful}
 use Rattle.protocol.specs.Meaning.{request_in}
 use Rattle.protocol.specs.Model.{MessageModel}
 use Rattle.message.specs.declared.part.Part.{Part}
 use Rattle.backend.specs.Acts.{new_object}
 use Rattle.backend.specs.declared.faults.StepFault.TheVariants.{TooNew}
-use Rattle.message.specs.Events.{EventModel, sendable}
+use Rattle.message.specs.Events.{sendable}
 use Rattle.wire.specs.Line.{Line, Waiting, Content, head_of, opened}
 use Rattle.backend.specs.declared.ids.ClientId.{ClientId}
 use Rattle.backend.specs.declared.registry.Registry.{Registry}
@@ -26,21 +25,20 @@ use Rattle.backend.specs.Events.{error_event, delete_id, done_event}
 use Rattle.backend.specs.Faults.{code_of_entry, number_of_error}
 use Rattle.backend.specs.Texts.{name_in, invalid_new_id, invalid_method}
 use Rattle.backend.specs.World.{Terms, World}
-use Rattle.backend.specs.Calls.{roomy, display_object, newcomer}
+use Rattle.backend.specs.Calls.{roomy, display_object}
 use Rattle.backend.specs.Registries.{roll_end}
 use Rattle.backend.specs.Requests.{Buffers, Stepped, stepped as stepped_by, failed, filled, synced, registered}
 use Rattle.backend.specs.Perform.{Outcome, create, created, perform}
 use Rattle.accounts.specs.Histories.{gained}
 use Rattle.laws.proofs.Kept.{sized_laws}
 use Rattle.laws.proofs.Worked.{cases as cases_of_map}
-use Rattle.engine_laws.proofs.Halves.{Half}
-use Rattle.engine_laws.proofs.Newer.{rowed, created_is, sits_created, refuses_newer}
-use Rattle.engine_laws.proofs.Synced.{Ready, sync_refused, syncs_ready}
-use Rattle.engine_laws.specs.Cases.{Admitted, Asks, AsksSync, AsksRegistry, welcomed, asking, stepping, Syncs, Enters, Fails, first_argument, SyncsOnce, Ends, WorkedCases, CasesStand, first_object}
-use Rattle.engine_laws.proofs.Sits.{living, Sits, sits_admitted, registry_stays, sits_asking, sits_stepped, place_of, over, steps}
-use Rattle.engine_laws.proofs.Asked.{taken, emptied, syncs_as, registers_as}
-use Rattle.engine_laws.proofs.Failing.{fails_so, once, syncs_so}
-use Rattle.engine_laws.proofs.Entering.{Entered, HasIt, enters_so, finds_it, ends_it}
+use Rattle.engine_laws.proofs.CaseNewer.{rowed, created_is, sits_created, refuses_newer}
+use Rattle.engine_laws.proofs.CaseSynced.{Ready, sync_refused, syncs_ready}
+use Rattle.engine_laws.specs.Cases.{Admitted, Asks, AsksSync, AsksRegistry, welcomed, asking, stepping, Syncs, Enters, Fails, first_argument, SyncsOnce, WorkedCases, CasesStand, first_object}
+use Rattle.engine_laws.proofs.CaseSits.{living, Sits, sits_admitted, registry_stays, sits_asking, sits_stepped, place_of, over}
+use Rattle.engine_laws.proofs.CaseAsked.{taken, emptied, syncs_as, registers_as}
+use Rattle.engine_laws.proofs.CaseFailing.{fails_so, once, syncs_so}
+use Rattle.engine_laws.proofs.CaseEntering.{Entered, enters_so, finds_it, ends_it}
 
 abbrev first_map : ObjectMap ObjectData
 first_map = inserted empty_map 1 display_object
@@ -126,10 +124,11 @@ module _ (t : Terms) (d : ℕ) (w : World) (c : ClientId) (b : Buffers) (new : A
       → ((perform t (create c row 1 e) (welcomed t d w)).answer ≡ created (Ok (first_object c 0xFF00_0000 row)))
       × Fails c TooNew 1 (invalid_method opcode 1 2 (name_in t.rows row) 0xFF00_0000) (stepping t c b r (perform t (create c row 1 e) (welcomed t d w)).run.world)
   too_new row opcode e m has since arguments r a =
-      let q = rowed t.rows new.lawful row opcode m has since in
-      (created_is t new.lawful sits row e 0xFF00_0000 q.title q.heading_is refl,
-      refuses_newer t new.lawful (sits_created t new.lawful sits row e 0xFF00_0000 q.title q.heading_is refl) some_room refl b large r row opcode m has since arguments a
-      (new_object row 1 (Number e) (living c.serial d 0 first_map)) refl refl refl)
+      let q = rowed t.rows new.lawful row opcode m has since in (
+        created_is t new.lawful sits row e 0xFF00_0000 q.title q.heading_is refl,
+        refuses_newer t new.lawful (sits_created t new.lawful sits row e 0xFF00_0000 q.title q.heading_is refl) some_room refl b large r row opcode m has since arguments a
+            (new_object row 1 (Number e) (living c.serial d 0 first_map)) refl refl refl,
+      )
 
   worked : WorkedCases t d w c b
   worked = record {
@@ -150,4 +149,7 @@ module _ (t : Terms) (d : ℕ) (w : World) (c : ClientId) (b : Buffers) (new : A
   }
 
 pub cases : CasesStand
-cases t d w c b new large = worked t d w c b new large
+cases = record {
+  stand = λ t d w c b new large. worked t d w c b new large;
+  first_client = λ t d lines lawful allowed. (record { lawful = lawful; answers = refl; no_ticket = refl; allowed = allowed }, refl);
+}

@@ -10,7 +10,7 @@ use Rattle.protocol.specs.Lawful.{Lawful}
 use Rattle.protocol.specs.Meaning.{request_in}
 use Rattle.protocol.specs.Model.{MessageModel}
 use Rattle.message.specs.declared.part.Part.{Part}
-use Rattle.wire.specs.Line.{Waiting}
+use Rattle.wire.specs.Line.{Line, Waiting}
 use Rattle.backend.specs.declared.ids.ClientId.{ClientId}
 use Rattle.backend.specs.declared.ids.ObjectId.{ObjectId}
 use Rattle.backend.specs.declared.client.Client.{Client}
@@ -24,7 +24,7 @@ use Rattle.backend.specs.declared.ticket.Outstanding.TheVariants.{Nothing}
 use Rattle.backend.specs.declared.answers.StepAnswer.TheVariants.{Synced, Registered, Failed}
 use Rattle.backend.specs.Events.{error_event, delete_id, done_event}
 use Rattle.backend.specs.Texts.{name_in, invalid_method}
-use Rattle.backend.specs.World.{Terms, World, client_at, on_line}
+use Rattle.backend.specs.World.{Terms, World, new_engine, client_at, on_line}
 use Rattle.backend.specs.Acts.{ended, took, received, flushed as carried, tagged}
 use Rattle.backend.specs.Registries.{roll_end}
 use Rattle.backend.specs.Requests.{Buffers}
@@ -33,7 +33,7 @@ use Rattle.backend.specs.Perform.{admit, step, create, destroy, find, flush, adm
 use Rattle.accounts.specs.Histories.{gained}
 
 -- A client was just admitted, and c is its handle. The catalogue keeps its laws, no ticket is out, and the line of the client takes at
--- least two events after it was opened.
+-- least two events from when it is opened, and from each flush, to the next flush.
 pub record Admitted (t : Terms) (d : ℕ) (w : World) (c : ClientId) : Type 0 where
   pub lawful : Lawful t.rows
   pub answers : (perform t (admit d) w).answer ≡ admitted (Ok c)
@@ -116,12 +116,12 @@ pub record WorkedCases (t : Terms) (d : ℕ) (w : World) (c : ClientId) (b : Buf
   pub one_taken : (r : Waiting) → AsksRegistry r 1 → Fails c (first_argument (Entry Taken)) 0 (codes "Invalid new_id: 1.") (stepping t c b r (welcomed t d w))
   -- sync with the new id 2: the callback enters and ends, and wl_callback.done and delete_id 2 come last on the line, in that order
   pub sync_tells : (r : Waiting) → AsksSync r 2 → SyncsOnce c 2 (asking c r (welcomed t d w)) (stepping t c b r (welcomed t d w))
-  -- 63 syncs use all 64 places of the client's half: its length, which counts the places ever used, is 64
+  -- 63 syncs use all 64 places of the client's half: its length, which counts the places ever used, is 64 (63 of them are vacant again)
   pub half_used : (v : World) → Syncs t c (welcomed t d w) 63 v → (k : Client) × (client_at v c ≡ Some k) × (k.map.client_objects.len ≡ 64)
   -- then 65 is full: no memory, which is code 2
   pub last_full : (v : World) → Syncs t c (welcomed t d w) 63 v → (r : Waiting) → AsksSync r 65
       → Fails c (first_argument (Entry Full)) 2 (codes "No memory.") (stepping t c b r v)
-  -- and 66 is beyond
+  -- and 66 is beyond: an invalid object
   pub past_beyond : (v : World) → Syncs t c (welcomed t d w) 63 v → (r : Waiting) → AsksSync r 66
       → Fails c (first_argument (Entry Beyond)) 0 (codes "Invalid new_id: 66.") (stepping t c b r v)
   -- A request of version 2, to an object of version 1 that the server created for the client, is an invalid method: code 1.
@@ -134,5 +134,9 @@ pub record WorkedCases (t : Terms) (d : ℕ) (w : World) (c : ClientId) (b : Buf
       → Ends c (first_object c 0xFF00_0000 2) (stepping t c b r (welcomed t d w)).run.world
       (perform t (destroy (first_object c 0xFF00_0000 2)) (stepping t c b r (welcomed t d w)).run.world)
 
-abbrev pub CasesStand : Type 0
-CasesStand = (t : Terms) (d : ℕ) (w : World) (c : ClientId) (b : Buffers) → Admitted t d w c → roomy b ≡ true → WorkedCases t d w c b
+pub record CasesStand : Type 0 where
+  -- the cases stand of any client that was just admitted
+  pub stand : (t : Terms) (d : ℕ) (w : World) (c : ClientId) (b : Buffers) → Admitted t d w c → roomy b ≡ true → WorkedCases t d w c b
+  -- and there is such a client: the first of a new engine, whose roll has a place
+  pub first_client : (t : Terms) (d : ℕ) (lines : ℕ → Line) → Lawful t.rows → 2 ≤ (lines 0).limit
+      → Admitted t d (record { engine = new_engine; lines = lines }) (record { place = 0; serial = 1 }) × (is_some (roll_end new_engine.registry.roll) ≡ true)

@@ -1,5 +1,5 @@
 -- A request that is newer than its object.
-use Rattle.std.proofs.Common.{◌≡◌, ℕ, zero, suc, ◌+◌, ◌^◌, ◌%◌, ◌<◌, ◌≤◌, Bool, true, false, eqb, ltb, leb, cond, ◌&&◌, List, [], ◌∷◌, ◌++◌, length, take, Some, None, Ok, Err, Option, Result, sym, refl, ap, ◌∙◌, subst, length-append, arith}
+use Rattle.std.proofs.Common.{◌≡◌, ℕ, zero, suc, ◌+◌, ◌^◌, ◌%◌, ◌<◌, ◌≤◌, true, false, eqb, ltb, leb, List, [], ◌∷◌, ◌++◌, length, take, Some, None, Ok, Option, Result, sym, refl, ap, ◌∙◌, subst, length-append, arith}
 use Rattle.std.proofs.lemmas.Bool.{cond-true, cond-false, ne_eqb, lt-ltb, le-leb, and_from, and_parts}
 use Rattle.std.proofs.lemmas.Fmt.{decimal_by_steps, length-decimal-le}
 use Rattle.std.proofs.lemmas.Option.{slice_get_within}
@@ -26,22 +26,21 @@ use Rattle.backend.specs.Events.{error_event}
 use Rattle.backend.specs.Texts.{name_in, name_of, invalid_method}
 use Rattle.wire.specs.Line.{Line, Waiting, Content, head_of}
 use Rattle.backend.specs.declared.ids.ClientId.{ClientId}
-use Rattle.backend.specs.declared.ids.ObjectId.{ObjectId}
 use Rattle.backend.specs.declared.client.Client.{Client}
 use Rattle.backend.specs.declared.faults.StepFault.TheVariants.{TooNew}
-use Rattle.backend.specs.World.{Terms, World, following, is_live}
+use Rattle.backend.specs.World.{Terms, World, following}
 use Rattle.backend.specs.Acts.{Seat, from, seat, resumed, fresh, new_object}
 use Rattle.backend.specs.Checks.{passing, present, the_row}
-use Rattle.backend.specs.Arguments.{Failing, walk}
+use Rattle.backend.specs.Arguments.{Failing}
 use Rattle.backend.specs.Calls.{Creating, roomy, create_seat, create_check, create_act}
-use Rattle.backend.specs.Requests.{Buffers, Stepped, stepped as stepped_by, failed, filled, origin_of, dispatched, displayed, bound, asked, concluded}
+use Rattle.backend.specs.Requests.{Buffers, stepped as stepped_by, failed, filled, origin_of, dispatched}
 use Rattle.backend.specs.Perform.{create, created, checked, perform, Outcome}
 use Rattle.accounts.specs.Histories.{gained}
 use Rattle.accounts.proofs.Books.{some_is, not_vacant}
-use Rattle.engine_laws.specs.Cases.{Asks, Fails, asking, stepping}
-use Rattle.engine_laws.proofs.Sits.{living, Sits, sits_asking, sits_resumed, place_of}
-use Rattle.engine_laws.proofs.Failing.{fails_so}
-use Rattle.engine_laws.proofs.Asked.{taken, emptied, reads_request, row_is}
+use Rattle.engine_laws.specs.Cases.{Asks, Fails, stepping}
+use Rattle.engine_laws.proofs.CaseSits.{living, Sits, sits_resumed, place_of}
+use Rattle.engine_laws.proofs.CaseFailing.{fails_so}
+use Rattle.engine_laws.proofs.CaseAsked.{taken, emptied, reads_request, row_is}
 
 -- Texts that a wire takes.
 

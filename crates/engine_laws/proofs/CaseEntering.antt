@@ -1,18 +1,15 @@
 -- A step that enters a registry, and the end of an object of the server's half.
-use Rattle.std.proofs.Common.{◌≡◌, ℕ, ◌+◌, Bool, true, false, not, eqb, ltb, cond, List, [], ◌∷◌, is_some, Some, None, Ok, Err, Option, Result, sym, refl, ap, ◌∙◌, subst, arith}
+use Rattle.std.proofs.Common.{◌≡◌, ℕ, ◌+◌, true, not, eqb, cond, List, [], ◌∷◌, is_some, Some, None, Ok, Err, Option, Result, sym, refl, ap, ◌∙◌, subst}
 use Rattle.std.proofs.lemmas.Bool.{cond-true, eq-eqb, cond_both, false≢true}
 use Rattle.map.specs.declared.DataMark.TheVariants.{Own}
-use Rattle.map.specs.declared.fault.InvalidId.{InvalidId}
-use Rattle.map.specs.declared.fault.MapFault.{MapFault}
 use Rattle.map.specs.declared.Object.{Object}
 use Rattle.map.specs.declared.ObjectData.{ObjectData}
 use Rattle.map.specs.declared.ObjectMap.{ObjectMap}
-use Rattle.map.specs.Map.{limit, find_in, insert_answer, inserted}
+use Rattle.map.specs.Map.{find_in, insert_answer, inserted}
 use Rattle.laws.proofs.Find.{entered_found}
 use Rattle.laws.proofs.Lookup.{answers}
 use Rattle.protocol.specs.declared.refusal.Refusal.{Refusal}
 use Rattle.protocol.specs.declared.refusal.Refusal.TheVariants.{NoClient, Reserved}
-use Rattle.protocol.specs.Lawful.{Lawful}
 use Rattle.message.specs.Events.{EventModel}
 use Rattle.wire.specs.Line.{Line, Waiting, head_of, write_answer}
 use Rattle.wire.specs.declared.answers.WriteError.{WriteError}
@@ -25,17 +22,17 @@ use Rattle.backend.specs.declared.answers.StepAnswer.TheVariants.{Registered}
 use Rattle.backend.specs.Events.{global_event}
 use Rattle.backend.specs.Texts.{name_in}
 use Rattle.backend.specs.Ids.{local_of}
-use Rattle.backend.specs.World.{Terms, World, client_at, following, is_live}
+use Rattle.backend.specs.World.{Terms, World, following, is_live}
 use Rattle.backend.specs.Acts.{Seat, from, lost, offer, tell, fresh, new_object, enter, ended, tagged}
 use Rattle.backend.specs.Registries.{roll_end, enrolled, visible, announce, announce_all}
 use Rattle.backend.specs.Checks.{passing, unless, present, alive, the_object, Owned, the_owned}
-use Rattle.backend.specs.Calls.{roomy, step_run, end_in, handle_at, handle_of, destroy_check, destroy_act}
-use Rattle.backend.specs.Requests.{Buffers, Place, Stepped, stepped, registered, enlisted}
+use Rattle.backend.specs.Calls.{roomy, step_run, end_in, handle_at, handle_of, destroy_act}
+use Rattle.backend.specs.Requests.{Buffers, Stepped, stepped, registered, enlisted}
 use Rattle.backend.specs.Perform.{stepped as stepped_answer, find, destroy, found, destroyed, Outcome, told, checked, perform}
 use Rattle.accounts.specs.Histories.{gained}
-use Rattle.engine_laws.specs.Cases.{Enters, Ends, asking, stepping, first_object}
-use Rattle.engine_laws.proofs.Sits.{living, Sits, sits_asking, sits_stepped, place_of, over, steps}
-use Rattle.engine_laws.proofs.Asked.{taken, emptied}
+use Rattle.engine_laws.specs.Cases.{Ends, asking, stepping}
+use Rattle.engine_laws.proofs.CaseSits.{living, Sits, sits_asking, sits_stepped, place_of, over, steps}
+use Rattle.engine_laws.proofs.CaseAsked.{taken, emptied}
 
 -- What announcing leaves of a client: its serial and its objects.
 

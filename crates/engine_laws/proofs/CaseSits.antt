@@ -1,29 +1,27 @@
 -- A client that is live in its place: what a call does there, and what stands there after it.
-use Rattle.std.proofs.Common.{◌≡◌, ℕ, Bool, true, false, eqb, ltb, List, [], ◌∷◌, ◌++◌, length, Some, None, Ok, Err, Option, Result, sym, refl, ap, ◌∙◌, subst, arith}
-use Rattle.std.proofs.lemmas.Bool.{eq-eqb, cond-true, cond-false, and_parts, not-true}
+use Rattle.std.proofs.Common.{◌≡◌, ℕ, Bool, true, eqb, List, [], length, Some, None, Ok, Option, Result, refl, ap, ◌∙◌, subst, arith}
+use Rattle.std.proofs.lemmas.Bool.{eq-eqb, cond-true}
 use Rattle.places.proofs.Laws.{at_set_same}
 use Rattle.places.proofs.Vacant.{vacant_within}
 use Rattle.places.specs.Places.{first_vacant}
 use Rattle.map.specs.declared.ObjectData.{ObjectData}
 use Rattle.map.specs.declared.ObjectMap.{ObjectMap}
-use Rattle.map.specs.Map.{empty_map, inserted}
 use Rattle.protocol.specs.declared.refusal.Refusal.{Refusal}
 use Rattle.protocol.specs.declared.refusal.Refusal.TheVariants.{BadSize, TicketOutstanding, NoClient, ClientKilled, NoVacancy}
-use Rattle.wire.specs.Line.{Line, Waiting, head_of, opened, flushed as flushed_line}
+use Rattle.wire.specs.Line.{Line, Waiting, head_of, opened}
 use Rattle.backend.specs.declared.ids.ClientId.{ClientId}
 use Rattle.backend.specs.declared.client.Client.{Client}
 use Rattle.backend.specs.declared.client.ClientState.TheVariants.{Live}
 use Rattle.backend.specs.declared.ticket.Outstanding.{Outstanding}
 use Rattle.backend.specs.declared.ticket.Outstanding.TheVariants as out
-use Rattle.backend.specs.World.{Terms, World, named, client_at, is_live, following, with_outstanding, on_line}
-use Rattle.backend.specs.Acts.{Seat, Run, from, seat, resumed, flush as flush_seat, seated}
+use Rattle.backend.specs.World.{Terms, World, named, client_at, is_live, on_line}
+use Rattle.backend.specs.Acts.{Seat, from, resumed, flush as flush_seat}
 use Rattle.backend.specs.Checks.{the_client, passing, unless, present}
 use Rattle.backend.specs.Requests.{Buffers, Stepped, Place, stepped as stepped_by}
-use Rattle.backend.specs.Calls.{roomy, is_free, display_object, newcomer, new_client_id, admit_check, admit_act, admit_world, step_check, step_act, step_run, flush_act}
-use Rattle.backend.specs.Perform.{admit, step, flush, Answer, admitted, stepped, flushed, Outcome, checked, perform}
+use Rattle.backend.specs.Calls.{roomy, is_free, newcomer, new_client_id, admit_act, admit_world, step_check, step_act, step_run, flush_act}
+use Rattle.backend.specs.Perform.{admit, step, flush, admitted, stepped, flushed, Outcome, checked, perform}
 use Rattle.accounts.specs.Histories.{gained}
-use Rattle.accounts.proofs.Kept.{named_same, client_same, serial_agrees}
-use Rattle.accounts.proofs.Checked.{ok_is, never_ok}
+use Rattle.accounts.proofs.Kept.{named_same, client_same}
 
 -- a live client of these parts
 abbrev pub living : ℕ → ℕ → ℕ → ObjectMap ObjectData → Client

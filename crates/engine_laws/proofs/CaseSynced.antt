@@ -1,5 +1,5 @@
 -- A client that asked for sync several times.
-use Rattle.std.proofs.Common.{◌≡◌, ℕ, suc, ◌+◌, ◌-◌, ◌≤◌, Bool, true, false, eqb, List, [], ◌∷◌, None, Some, Ok, Err, Result, sym, refl, ap, ◌∙◌, subst, arith}
+use Rattle.std.proofs.Common.{◌≡◌, ℕ, ◌+◌, ◌-◌, ◌≤◌, true, false, eqb, List, [], ◌∷◌, None, Some, Err, Result, sym, refl, ap, ◌∙◌, subst, arith}
 use Rattle.std.proofs.lemmas.Bool.{ne_eqb}
 use Rattle.map.specs.declared.fault.MapFault.{MapFault}
 use Rattle.map.specs.declared.Object.{Object}
@@ -21,11 +21,11 @@ use Rattle.backend.specs.Calls.{roomy, display_object}
 use Rattle.backend.specs.Requests.{Buffers, Stepped, stepped as stepped_by, failed, filled, synced}
 use Rattle.backend.specs.Perform.{Outcome, flush, perform}
 use Rattle.accounts.specs.Histories.{gained}
-use Rattle.engine_laws.specs.Cases.{AsksSync, asking, stepping, Syncs, none, more, Fails, first_argument}
-use Rattle.engine_laws.proofs.Sits.{living, Sits, sits_asking, sits_resumed, sits_stepped, place_of, over, steps, flushes}
-use Rattle.engine_laws.proofs.Asked.{taken, emptied, syncs_as}
-use Rattle.engine_laws.proofs.Failing.{fails_so, once, syncs_so}
-use Rattle.engine_laws.proofs.Halves.{Half, low, next_enters, next_half, others_stay}
+use Rattle.engine_laws.specs.Cases.{AsksSync, stepping, Syncs, none, more, Fails, first_argument}
+use Rattle.engine_laws.proofs.CaseSits.{living, Sits, sits_asking, sits_resumed, sits_stepped, place_of, over, flushes}
+use Rattle.engine_laws.proofs.CaseAsked.{taken, emptied, syncs_as}
+use Rattle.engine_laws.proofs.CaseFailing.{fails_so, once, syncs_so}
+use Rattle.engine_laws.proofs.CaseHalves.{Half, low, next_enters, next_half, others_stay}
 
 -- the client stands ready: nothing waits on its line, its allowance is whole, it has its display, and n + 1 ids were used
 pub record Ready (c : ClientId) (d allowance n : ℕ) (v : World) : Type 0 where

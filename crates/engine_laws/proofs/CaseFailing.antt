@@ -1,13 +1,10 @@
 -- A step that fails, and one that syncs.
-use Rattle.std.proofs.Common.{◌≡◌, ℕ, ◌+◌, ◌-◌, ◌≤◌, Bool, true, false, not, eqb, ltb, cond, ◌&&◌, List, [], ◌∷◌, ◌++◌, length, Some, None, Ok, Err, Option, Result, sym, refl, ap, ◌∙◌, subst, append_assoc, arith}
-use Rattle.std.proofs.lemmas.Bool.{cond-true, cond-false, and_parts, not-true, ne_eqb}
-use Rattle.std.proofs.lemmas.Fmt.{decimal_digit, decimal_step}
-use Rattle.std.specs.Prelude.{codes}
+use Rattle.std.proofs.Common.{◌≡◌, ℕ, ◌-◌, true, false, eqb, ltb, [], ◌∷◌, None, Ok, Result, refl, ap, ◌∙◌}
+use Rattle.std.proofs.lemmas.Bool.{cond-true, cond-false}
 use Rattle.map.specs.declared.DataMark.TheVariants.{Own}
-use Rattle.map.specs.declared.fault.MapFault.{MapFault}
 use Rattle.map.specs.declared.ObjectData.{ObjectData}
 use Rattle.map.specs.declared.ObjectMap.{ObjectMap}
-use Rattle.map.specs.Map.{limit, find_in, insert_answer, inserted, removed}
+use Rattle.map.specs.Map.{limit, inserted, removed}
 use Rattle.message.specs.Events.{EventModel, sendable}
 use Rattle.wire.specs.Line.{Line, Waiting, head_of, write_answer, with_event, written}
 use Rattle.wire.specs.declared.answers.WriteError.{WriteError}
@@ -15,22 +12,20 @@ use Rattle.backend.specs.declared.ids.ClientId.{ClientId}
 use Rattle.backend.specs.declared.ids.ObjectId.{ObjectId}
 use Rattle.backend.specs.declared.client.Client.{Client}
 use Rattle.backend.specs.declared.client.DisconnectReason.TheVariants.{ProtocolError}
-use Rattle.backend.specs.declared.faults.StepFault.{StepFault}
 use Rattle.backend.specs.declared.ticket.Outstanding.TheVariants.{Nothing}
 use Rattle.backend.specs.declared.answers.StepAnswer.TheVariants.{Synced}
 use Rattle.backend.specs.Events.{error_event, delete_id, done_event}
 use Rattle.backend.specs.Faults.{code_of, number_of_error}
-use Rattle.backend.specs.Texts.{invalid_new_id}
 use Rattle.backend.specs.World.{Terms, World, client_at, following}
-use Rattle.backend.specs.Acts.{entered, took, received, ended, flushed as carried, tagged, Seat, killed, lost, heard, offer, fail, fresh, new_object, enter, draw, remove, end}
+use Rattle.backend.specs.Acts.{entered, took, received, ended, flushed as carried, tagged, Seat, killed, lost, heard, offer, fresh, new_object, enter, remove, end}
 use Rattle.backend.specs.Calls.{roomy, step_run}
 use Rattle.backend.specs.Arguments.{Failing}
-use Rattle.backend.specs.Requests.{Buffers, Place, Stepped, stepped, quiet, failed, synced}
+use Rattle.backend.specs.Requests.{Buffers, Stepped, stepped, quiet, failed, synced}
 use Rattle.backend.specs.Perform.{Outcome}
 use Rattle.accounts.specs.Histories.{gained}
 use Rattle.engine_laws.specs.Cases.{Fails, asking, stepping}
-use Rattle.engine_laws.proofs.Sits.{living, Sits, sits_asking, sits_stepped, place_of, over, steps}
-use Rattle.engine_laws.proofs.Asked.{taken, emptied}
+use Rattle.engine_laws.proofs.CaseSits.{living, Sits, sits_asking, sits_stepped, place_of, over, steps}
+use Rattle.engine_laws.proofs.CaseAsked.{taken, emptied}
 
 -- a line that takes one more event takes one that is not too large
 pub takes : (e : EventModel) (l : Line) → sendable e ≡ true → eqb l.allowance 0 ≡ false → write_answer e l ≡ Ok tt
@@ -70,10 +65,11 @@ module _ (t : Terms) {w : World} {c : ClientId} {serial d n : ℕ} {m : ObjectMa
   fails_so b large r k f b' e fits = record {
     answers = ap (λ (o : Outcome). o.answer) is;
     told = ap (λ (o : Outcome). o.run.deeds) is ∙ ap (λ (v : Result (Unit {0}) WriteError). tagged c (carried ∷ heard v event ∷ received ∷ [])) took_it;
-    killed =
-        (to.seat.client,
-        ap (λ (o : Outcome). client_at o.run.world c) is ∙ sits.there,
-        ap (λ (v : Result (Unit {0}) WriteError). (after v).state) took_it);
+    killed = (
+      to.seat.client,
+      ap (λ (o : Outcome). client_at o.run.world c) is ∙ sits.there,
+      ap (λ (v : Result (Unit {0}) WriteError). (after v).state) took_it,
+    );
   }
     where
       event : EventModel

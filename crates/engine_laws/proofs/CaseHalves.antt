@@ -1,10 +1,10 @@
 -- A sync's callback at the next id of the client's half: the map after it entered and ended.
-use Rattle.std.proofs.Common.{◌≡◌, ℕ, ◌+◌, ◌-◌, ◌≤◌, Bool, true, false, eqb, ltb, cond, length, is_some, None, Ok, Result, sym, refl, ap, ◌∙◌, arith}
+use Rattle.std.proofs.Common.{◌≡◌, ℕ, ◌+◌, ◌-◌, ◌≤◌, true, false, eqb, ltb, length, is_some, None, Ok, Result, refl, ap, ◌∙◌, arith}
 use Rattle.std.proofs.lemmas.Bool.{cond-true, cond-false, cond_both, ne_eqb, lt-ltb, le-ltb}
 use Rattle.places.specs.declared.PlaceFault.{PlaceFault}
 use Rattle.places.specs.declared.table.Table.{Table}
 use Rattle.places.specs.Places.{at, entry_at, grown, length_after}
-use Rattle.places.specs.Tables.{entered_at, replaced}
+use Rattle.places.specs.Tables.{entered_at}
 use Rattle.map.specs.declared.Object.{Object}
 use Rattle.map.specs.declared.ObjectData.{ObjectData}
 use Rattle.map.specs.declared.ObjectMap.{ObjectMap}

@@ -1,12 +1,10 @@
 -- What a step does with a request of the display that makes an object.
-use Rattle.std.proofs.Common.{◌≡◌, ℕ, ◌+◌, ◌≤◌, Bool, true, false, not, eqb, ltb, cond, ◌&&◌, List, [], ◌∷◌, ◌++◌, length, take, Some, None, Ok, Err, Option, Result, sym, refl, ap, ◌∙◌, arith}
-use Rattle.std.proofs.lemmas.Bool.{cond-true, cond-false, and_parts, not-true}
+use Rattle.std.proofs.Common.{◌≡◌, ℕ, true, false, not, ltb, List, [], ◌∷◌, ◌++◌, length, take, Some, None, Option, ap, ◌∙◌, arith}
+use Rattle.std.proofs.lemmas.Bool.{cond-false, and_parts, not-true}
 use Rattle.std.specs.Prelude.{codes}
 use Rattle.std.specs.List.{slice_get}
-use Rattle.map.specs.declared.fault.MapFault.{MapFault}
 use Rattle.map.specs.declared.Object.{Object}
 use Rattle.map.specs.declared.ObjectData.{ObjectData}
-use Rattle.map.specs.declared.ObjectMap.{ObjectMap}
 use Rattle.map.specs.Map.{find_in, insert_answer}
 use Rattle.protocol.specs.declared.argument.Argument.{Argument}
 use Rattle.protocol.specs.declared.argument.Argument.TheVariants.{NewId}
@@ -17,11 +15,11 @@ use Rattle.protocol.specs.Lawful.{Lawful}
 use Rattle.protocol.specs.Meaning.{request_in, request_of}
 use Rattle.protocol.specs.Model.{RowModel, MessageModel}
 use Rattle.message.specs.declared.part.Part.{Part}
-use Rattle.wire.specs.Line.{Line, Waiting, Content, head_of, reads, content_of, read_after, rest}
+use Rattle.wire.specs.Line.{Line, Waiting, Content, head_of, reads, rest}
 use Rattle.backend.specs.declared.client.Client.{Client}
-use Rattle.backend.specs.Acts.{received, Act, Seat}
+use Rattle.backend.specs.Acts.{received, Seat}
 use Rattle.backend.specs.Calls.{roomy, display_object}
-use Rattle.backend.specs.Requests.{Buffers, Place, Stepped, stepped, of_sender, of_message, read_in, dispatched, displayed, synced, registered, origin_of, filled}
+use Rattle.backend.specs.Requests.{Buffers, Place, stepped, of_sender, of_message, read_in, dispatched, synced, registered, origin_of, filled}
 use Rattle.accounts.specs.Histories.{gained}
 use Rattle.engine_laws.specs.Cases.{Asks, AsksSync, AsksRegistry}
 
@@ -60,13 +58,14 @@ module _ (p : Place) (k : Client) (l : Line) (none : l.requests ≡ []) (b : Buf
       → (o : Object ObjectData) → find_in k.map sender ≡ Some o → request_in p.terms.rows o.row opcode ≡ Some m
       → (c : Content) × (stepped p (head_of (gained (r ∷ []) l)) (record { client = k; line = gained (r ∷ []) l; acts = [] }) b
       ≡ dispatched p (origin_of p.client sender opcode o m) o m arguments (taken k (emptied l)) (filled c b))
-  reads_request r sender opcode m arguments a o lives has =
-      (said,
-      ap (λ (x : Line). stepped p (head_of x) (record { client = k; line = x; acts = [] }) b) one
-      ∙ (ap (λ (v : Option (Object ObjectData)). of_sender p sender opcode v start b) lives
-      ∙ (ap (λ (v : Option MessageModel). of_message p sender opcode o v start b) has
-      ∙ (ap (λ (v : Option Content). read_in p (origin_of p.client sender opcode o m) o m v start b) read
-      ∙ ap (λ (v : Option Content). dispatched p (origin_of p.client sender opcode o m) o m arguments (taken k (left v)) (filled said b)) read))))
+  reads_request r sender opcode m arguments a o lives has = (
+    said,
+    ap (λ (x : Line). stepped p (head_of x) (record { client = k; line = x; acts = [] }) b) one
+        ∙ (ap (λ (v : Option (Object ObjectData)). of_sender p sender opcode v start b) lives
+        ∙ (ap (λ (v : Option MessageModel). of_message p sender opcode o v start b) has
+        ∙ (ap (λ (v : Option Content). read_in p (origin_of p.client sender opcode o m) o m v start b) read
+        ∙ ap (λ (v : Option Content). dispatched p (origin_of p.client sender opcode o m) o m arguments (taken k (left v)) (filled said b)) read))),
+  )
     where
       said : Content
       said = record { arguments = arguments; body = a.says.0 }
