@@ -1,1 +1,2 @@
 mod RefusedLemmas
+mod TouchedLemmas

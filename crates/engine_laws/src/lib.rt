@@ -4,3 +4,4 @@
 #![tactic(auto)]
 
 pub mod refused;
+pub mod touched;
