@@ -1,2 +1,3 @@
 mod RefusedLemmas
+mod StepLemmas
 mod TouchedLemmas

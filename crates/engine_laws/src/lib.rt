@@ -4,4 +4,5 @@
 #![tactic(auto)]
 
 pub mod refused;
+pub mod steps;
 pub mod touched;
