@@ -1,3 +1,6 @@
+mod OutLemmas
 mod RefusedLemmas
 mod StepLemmas
+mod TicketLemmas
 mod TouchedLemmas
+mod WalkLemmas

@@ -38,10 +38,11 @@ use Rattle.backend.specs.Registries.{roll_end}
 use Rattle.backend.specs.Requests.{Buffers, Stepped, Place, synced, enlisted, registered, displayed, bind_entered, bind_to, bind_named, bound, hand_out, concluded, asked, origin_of, dispatched, received_at, filled, read_in, of_message, of_sender, stepped as stepped_at}
 use Rattle.backend.specs.Calls.{is_free, roomy, step_check, step_of, step_run, step_act}
 use Rattle.backend.specs.Perform.{step, stepped, checked, perform, buffers_in, buffers_after}
+use Rattle.accounts.specs.Shown.{ticket_of}
 use Rattle.accounts.proofs.Checked.{ok_is, passed, required, the_client_lem}
 use Rattle.accounts.proofs.Books.{some_is}
 use Rattle.accounts.proofs.Kept.{named_is, client_same}
-use Rattle.engine_laws.specs.Steps.{Answers, KillsAlone, StepsAreNotIdle}
+use Rattle.engine_laws.specs.Steps.{Answers, ticket_in, KillsAlone, StepsAreNotIdle}
 
 -- A step that is not refused.
 
@@ -102,54 +103,55 @@ Busy (Plain x) = Unit {0}
 Busy (Making x) = Unit {0}
 Busy (Failed e) = Unit {0}
 
+-- and the ticket that the answer has is outstanding
 abbrev pub Works : Stepped → Type 0
-Works r = Busy r.answer
+Works r = Busy r.answer × (ticket_of r.outstanding ≡ ticket_in r.answer)
 
 module _ (p : Place) (s : Seat) (b : Buffers) where
   synced_busy : (id : ℕ) (r : Result (Unit {0}) MapFault) → Works (synced p id r s b)
-  synced_busy id (Err f) = tt
-  synced_busy id (Ok u) = tt
+  synced_busy id (Err f) = (tt, refl)
+  synced_busy id (Ok u) = (tt, refl)
 
   enlisted_busy : (id : ℕ) (v : Option ℕ) → Works (enlisted p id v s b)
-  enlisted_busy id None = tt
-  enlisted_busy id (Some i) = tt
+  enlisted_busy id None = (tt, refl)
+  enlisted_busy id (Some i) = (tt, refl)
 
   registered_busy : (id : ℕ) (r : Result (Unit {0}) MapFault) → Works (registered p id r s b)
-  registered_busy id (Err f) = tt
+  registered_busy id (Err f) = (tt, refl)
   registered_busy id (Ok u) = enlisted_busy id (roll_end p.registry.roll)
 
   displayed_busy : (opcode : ℕ) (v : Option ℕ) → Works (displayed p opcode v s b)
-  displayed_busy opcode None = tt
+  displayed_busy opcode None = (tt, refl)
   displayed_busy opcode (Some id) =
       cond_both (eqb opcode 0) _ _ Works (λ _. synced_busy id (insert_answer s.client.map id)) (λ _. registered_busy id (insert_answer s.client.map id))
 
   bind_entered_busy : (o : Origin) (name version id : ℕ) (g : Global) (r : Result (Unit {0}) MapFault) → Works (bind_entered p o name version id g r s b)
-  bind_entered_busy o name version id g (Err f) = tt
-  bind_entered_busy o name version id g (Ok u) = tt
+  bind_entered_busy o name version id g (Err f) = (tt, refl)
+  bind_entered_busy o name version id g (Ok u) = (tt, refl)
 
   bind_to_busy : (o : Origin) (name : ℕ) (interface : List ℕ) (version id : ℕ) (g : Option Global) → Works (bind_to p o name interface version id g s b)
-  bind_to_busy o name interface version id None = tt
+  bind_to_busy o name interface version id None = (tt, refl)
   bind_to_busy o name interface version id (Some g) = bind_entered_busy o name version id g (insert_answer s.client.map id)
 
   bind_named_busy : (o : Origin) (name : ℕ) (text : Option Part) (version id : ℕ) → Works (bind_named p o name text version id s b)
-  bind_named_busy o name None version id = tt
+  bind_named_busy o name None version id = (tt, refl)
   bind_named_busy o name (Some text) version id = bind_to_busy o name _ version id _
 
   bound_busy : (o : Origin) (a : Option (BindAsked Part)) → Works (bound p o a s b)
-  bound_busy o None = tt
+  bound_busy o None = (tt, refl)
   bound_busy o (Some a) = bind_named_busy o a.name a.interface a.version a.new_id
 
   out_busy : (o : Origin) (v : Option ObjectId) (os : List (Option ObjectId)) (q : Seat) → Works (hand_out p o v os q b)
-  out_busy o None os q = tt
-  out_busy o (Some x) os q = tt
+  out_busy o None os q = (tt, refl)
+  out_busy o (Some x) os q = (tt, refl)
 
   concluded_busy : (o : Origin) (f : Option Failing) (r : Walked) → Works (concluded p o f r b)
-  concluded_busy o (Some f) r = tt
+  concluded_busy o (Some f) r = (tt, refl)
   concluded_busy o None r = out_busy o r.child r.objects r.seat
 
   asked_busy : (o : Origin) (x : Object ObjectData) (m : MessageModel) (as' : List (Argument ℕ Part)) → Works (asked p o x m as' s b)
   asked_busy o x m as' =
-      cond_both (ltb x.version m.since) _ _ Works (λ _. tt)
+      cond_both (ltb x.version m.since) _ _ Works (λ _. (tt, refl))
       (λ _. let r = walk p.terms (record { sender = o.sender; version = x.version; message = m }) 0 m.kinds as' None m.rows s in concluded_busy o r.fault r)
 
   dispatched_busy : (o : Origin) (x : Object ObjectData) (m : MessageModel) (as' : List (Argument ℕ Part)) → Works (dispatched p o x m as' s b)
@@ -159,15 +161,15 @@ module _ (p : Place) (s : Seat) (b : Buffers) where
 
 module _ (p : Place) (s : Seat) (b : Buffers) where
   read_busy : (o : Origin) (x : Object ObjectData) (m : MessageModel) (c : Option Content) → Works (read_in p o x m c s b)
-  read_busy o x m None = tt
+  read_busy o x m None = (tt, refl)
   read_busy o x m (Some c) = dispatched_busy p (received_at m s b) (filled c b) o x m c.arguments
 
   message_busy : (id opcode : ℕ) (x : Object ObjectData) (m : Option MessageModel) → Works (of_message p id opcode x m s b)
-  message_busy id opcode x None = tt
+  message_busy id opcode x None = (tt, refl)
   message_busy id opcode x (Some m) = read_busy (origin_of p.client id opcode x m) x m (reads (length b.body) m.kinds s.line)
 
   sender_busy : (id opcode : ℕ) (x : Option (Object ObjectData)) → Works (of_sender p id opcode x s b)
-  sender_busy id opcode None = tt
+  sender_busy id opcode None = (tt, refl)
   sender_busy id opcode (Some x) = message_busy id opcode x (request_in p.terms.rows x.row opcode)
 
 -- By the head of the line.
@@ -180,7 +182,7 @@ module _ (t : Terms) (c : ClientId) (b : Buffers) (w : World) where
   at_head d k = stepped_at (record { terms = t; registry = w.engine.registry; client = c }) d (seat c k (from w)) b
 
   -- what is known of the line by the answer
-  abbrev Known : StepAnswer → Type 0
+  abbrev pub Known : StepAnswer → Type 0
   Known Idle = (line.requests ≡ []) × (line.broken ≡ false)
   Known Closed = (line.requests ≡ []) × (line.broken ≡ true)
   Known (Synced e) = Unit {0}
@@ -201,10 +203,19 @@ module _ (t : Terms) (c : ClientId) (b : Buffers) (w : World) where
   by_line : (k : Client) (a : StepAnswer) (rs : List Waiting) (x : Bool) → line.requests ≡ rs → line.broken ≡ x → (at_head (headed (front rs) x) k).answer ≡ a → Known a
   by_line k a [] true e f q = subst Known q (e, f)
   by_line k a [] false e f q = subst Known q (e, f)
-  by_line k a (r ∷ rs) x e f q = busy_known a (subst Busy q (sender_busy (record { terms = t; registry = w.engine.registry; client = c }) (seat c k (from w)) b r.sender r.opcode (find_in k.map r.sender)))
+  by_line k a (r ∷ rs) x e f q = busy_known a (subst Busy q (sender_busy (record { terms = t; registry = w.engine.registry; client = c }) (seat c k (from w)) b r.sender r.opcode (find_in k.map r.sender)).0)
 
-  known : (a : StepAnswer) → Answers t c b w a → Known a
+  pub known : (a : StepAnswer) → Answers t c b w a → Known a
   known a e = let k = taken t c b w a e in by_line k.client a line.requests line.broken refl refl k.says
+
+  -- the ticket that is outstanding is the answer's
+  hands : (k : Client) (rs : List Waiting) (x : Bool) → ticket_of (at_head (headed (front rs) x) k).outstanding ≡ ticket_in (at_head (headed (front rs) x) k).answer
+  hands k [] true = refl
+  hands k [] false = refl
+  hands k (r ∷ rs) x = (sender_busy (record { terms = t; registry = w.engine.registry; client = c }) (seat c k (from w)) b r.sender r.opcode (find_in k.map r.sender)).1
+
+  pub works : (k : Client) → ticket_of (step_of t c b w k).outstanding ≡ ticket_in (step_of t c b w k).answer
+  works k = hands k line.requests line.broken
 
   -- an empty line
   at_end : (k : Client) (x : Bool) → line.requests ≡ [] → line.broken ≡ x → step_of t c b w k ≡ at_head (headed None x) k
