@@ -61,7 +61,7 @@ free_is (out.Plain o) e = absurd (false≢true e)
 free_is (out.Making m) e = absurd (false≢true e)
 
 module _ (t : Terms) (c : ClientId) (b : Buffers) (w : World) where
-  checks : (k : Client) → step_check c b w ≡ Ok k → (client_at w c ≡ Some k) × ((is_live k.state ≡ true) × (w.engine.outstanding ≡ out.Nothing))
+  pub checks : (k : Client) → step_check c b w ≡ Ok k → (client_at w c ≡ Some k) × ((is_live k.state ≡ true) × (w.engine.outstanding ≡ out.Nothing))
   checks k e =
       let after_client = λ (q : Client). passing (unless (is_live q.state) ClientKilled) (λ (u : Unit {0}). Ok q) in
       let after_ticket = λ (u : Unit {0}). passing (the_client w c) after_client in

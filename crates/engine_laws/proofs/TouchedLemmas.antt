@@ -1,14 +1,16 @@
 -- Which lines a call touches.
-use Rattle.std.proofs.Common.{◌≡◌, ℕ, ◌+◌, true, false, cond, eqb, set, List, [], ◌∷◌, Some, None, Ok, Err, Option, Result, sym, refl, ap, ◌∙◌, subst, inl, inr, ⊎_elim}
-use Rattle.std.proofs.lemmas.Bool.{cond_both, cond-true, cond-false, cases_Bool, eqb-true, eq-eqb, false≢true}
+use Rattle.std.proofs.Common.{◌≡◌, ℕ, ◌+◌, true, false, cond, eqb, ltb, set, List, [], ◌∷◌, Some, None, Ok, Err, Option, Result, sym, refl, ap, ◌∙◌, subst, inl, inr, ⊎_elim}
+use Rattle.std.proofs.lemmas.Bool.{cond_both, cond-true, cond-false, cases_Bool, ltb-true, eqb-true, eq-eqb, false≢true}
 use Rattle.std.proofs.lemmas.List.{set-get_or}
 use Rattle.places.specs.Places.{at}
 use Rattle.places.proofs.Laws.{at_set_other}
+use Rattle.map.specs.declared.DataMark.{DataMark}
 use Rattle.map.specs.declared.DataMark.TheVariants.{Number}
 use Rattle.map.specs.declared.Object.{Object}
 use Rattle.map.specs.declared.ObjectData.{ObjectData}
-use Rattle.map.specs.Map.{find_in}
+use Rattle.map.specs.Map.{limit, find_in}
 use Rattle.protocol.specs.declared.refusal.Refusal.{Refusal}
+use Rattle.protocol.specs.declared.refusal.Refusal.TheVariants.{BadSize}
 use Rattle.wire.specs.Line.{Line}
 use Rattle.backend.specs.declared.ids.ClientId.{ClientId}
 use Rattle.backend.specs.declared.ids.ObjectId.{ObjectId}
@@ -26,17 +28,20 @@ use Rattle.backend.specs.declared.answers.DisableAnswer.TheVariants.{Disabled}
 use Rattle.backend.specs.declared.answers.DisableAnswer.{DisableAnswer}
 use Rattle.backend.specs.Tickets.{same_ticket}
 use Rattle.backend.specs.Texts.{name_in}
-use Rattle.backend.specs.Events.{global_event, global_remove}
-use Rattle.message.specs.Events.{EventModel}
+use Rattle.backend.specs.Events.{delete_id, global_event, global_remove}
+use Rattle.message.specs.Events.{EventModel, sendable}
 use Rattle.backend.specs.World.{Terms, World, client_at, is_live, named, with_state}
-use Rattle.backend.specs.Acts.{Seat, Run, from, seat, resumed, tell, kill as kill_seat, remove as remove_seat}
+use Rattle.backend.specs.Acts.{Seat, Run, from, seat, resumed, offer, tell, end, kill as kill_seat, remove as remove_seat}
 use Rattle.backend.specs.Registries.{announce, retract, visible, visit, along_roll, global_id}
-use Rattle.backend.specs.Checks.{the_client, the_owned, the_global, Owned}
-use Rattle.backend.specs.Sending.{SendArgument, Sendable}
-use Rattle.backend.specs.Calls.{Done, admit_check, admit_act, new_client_id, step_check, step_act, living, sender_ends, settle_sender, child_set, create_check, create_act, create_seat, destroy_check, destroy_act, send_check, send_what, send_act, set_act, next_handle, post_check, post_act, kill_check, kill_act, add_check, new_global, add_world, add_act, disabled_global, global_put, disable_run, disable_act, remove_act, flush_act, Found, found_id, lowest_killed, tidy_end, tidy_act, tidy_at}
+use Rattle.backend.specs.Checks.{passing, unless, the_client, the_owned, the_global, Owned}
+use Rattle.backend.specs.Sending.{SendArgument, sent_event, Sendable, send_checks}
+use Rattle.backend.specs.Calls.{Done, admit_check, admit_act, new_client_id, step_check, step_act, living, end_in, sender_ends, settle_sender, child_set, create_check, create_act, create_seat, destroy_check, destroy_act, mark_of, SendingTo, sendable_to, send_check, send_what, send_act, set_act, next_handle, postable, post_check, post_act, kill_check, kill_act, add_check, new_global, add_world, add_act, disabled_global, global_put, disable_run, disable_act, remove_act, flush_act, Found, found_id, lowest_killed, tidy_end, tidy_act, tidy_at}
 use Rattle.backend.specs.Perform.{Call, admit, step, settle_plain, settle_making, create, destroy, send, look, set as set_call, find, next, post, kill, add, disable, remove, flush, tidy, Answer, admitted, stepped, created, destroyed, sent, looked, changed, found, found_next, posted, killed, added, disabled, removed, flushed, tidied, Outcome, checked, perform}
+use Rattle.accounts.proofs.Books.{not_vacant}
+use Rattle.accounts.proofs.Checked.{ok_is, passed, the_client_lem}
 use Rattle.accounts.proofs.Kept.{named_is}
-use Rattle.engine_laws.specs.Touched.{OnRoll, Listener, Shown, Ends, Touches, CallsTouchTheirLines}
+use Rattle.engine_laws.proofs.StepLemmas.{checks}
+use Rattle.engine_laws.specs.Touched.{OnRoll, Listener, Shown, Reached, Deleted, Ends, Touches, CallsTouchTheirLines}
 
 -- Done at one client.
 
@@ -110,6 +115,12 @@ module _ (t : Terms) (w : World) (p : ℕ) where
   checked_same says (Err e) act fine = refl
   checked_same says (Ok x) act fine = fine x
 
+  -- the same, with what its check found
+  found_same : {P A : Type 0} (says : Result A Refusal → Answer) (r : Result P Refusal) (act : P → Done A) → ((x : P) → r ≡ Ok x → (act x).run.world.lines p ≡ w.lines p)
+      → (checked says r w act).run.world.lines p ≡ w.lines p
+  found_same says (Err e) act fine = refl
+  found_same says (Ok x) act fine = fine x refl
+
   told_same : {P A : Type 0} (says : Result A Refusal → Answer) (r : Result P Refusal) (f : P → A) → (checked says r w (λ (x : P). record { value = f x; run = from w })).run.world.lines p ≡ w.lines p
   told_same says (Err e) f = refl
   told_same says (Ok x) f = refl
@@ -118,9 +129,21 @@ module _ (t : Terms) (w : World) (p : ℕ) where
   admit_same d (Err e) clear = refl
   admit_same d (Ok q) clear = away p q _ _ (λ e. clear (new_client_id q w, refl, e))
 
-  sender_same : (o : Origin) (v : Option Owned) → (p ≡ o.sender.client.place → ⊥) → (sender_ends o v (from w)).run.world.lines p ≡ w.lines p
+  end_same : (x : ObjectId) (mark : DataMark) (k : Client) → (Deleted x p → ⊥) → (end_in x mark k (from w)).world.lines p ≡ w.lines p
+  end_same x mark k clear = ⊎_elim low high (cases_Bool (ltb x.id limit))
+    where
+      s : Seat
+      s = seat x.client k (from w)
+
+      low : ltb x.id limit ≡ true → (end_in x mark k (from w)).world.lines p ≡ w.lines p
+      low e = away p x.client.place _ _ (λ here. clear (ltb-true x.id limit e, here))
+
+      high : ltb x.id limit ≡ false → (end_in x mark k (from w)).world.lines p ≡ w.lines p
+      high e = still p x.client (end x mark s) (from w) (ap (λ (q : Seat). q.line) (cond-false (ltb x.id limit) (offer (delete_id x.id) s) s e))
+
+  sender_same : (o : Origin) (v : Option Owned) → (Deleted o.sender p → ⊥) → (sender_ends o v (from w)).run.world.lines p ≡ w.lines p
   sender_same o None clear = refl
-  sender_same o (Some x) clear = away p o.sender.client.place _ _ clear
+  sender_same o (Some x) clear = end_same o.sender o.«data» x.client clear
 
   settle_same : (o : Origin) → (Ends o p → ⊥) → (settle_sender o (from w)).run.world.lines p ≡ w.lines p
   settle_same o clear = cond_both o.destructor _ _ (λ (d : Done (Option End)). d.run.world.lines p ≡ w.lines p) (λ b. sender_same o (living w o.sender) (λ e. clear (b, e))) (λ b. refl)
@@ -129,13 +152,28 @@ module _ (t : Terms) (w : World) (p : ℕ) where
   child_same x d None r e = e
   child_same x d (Some o) r e = e
 
-  send_same : (x : ObjectId) (opcode : ℕ) (as' : List SendArgument) (k : Client) (v : Option Sendable) → (p ≡ x.client.place → ⊥) → (send_what x opcode as' k w v).run.world.lines p ≡ w.lines p
+  -- an event goes to a client that is not killed
+  sends_live : (x : ObjectId) (opcode : ℕ) (as' : List SendArgument) (v : SendingTo) (q : Sendable) → send_check t x opcode as' w ≡ Ok v → v.what ≡ Some q → (k : Client) × (client_at w x.client ≡ Some k) × (is_live k.state ≡ true)
+  sends_live x opcode as' v q e some =
+      let by_client = λ (k : Client). cond (is_live k.state) (sendable_to k (send_checks t.rows k x opcode as')) (Ok (record { client = k; what = None })) in
+      let f = passed (unless (sendable (sent_event x opcode as')) BadSize) (λ (u : Unit {0}). passing (the_client w x.client) by_client) v e in
+      let g = passed (the_client w x.client) by_client v f.2 in
+      (g.0, the_client_lem w x.client g.0 g.1, ⊎_elim (λ l. l) (λ d. absurd (unsent g.0 (sym (cond-false (is_live g.0.state) _ _ d) ∙ g.2))) (cases_Bool (is_live g.0.state)))
+    where
+      unsent : (k : Client) → ◌≡◌ {A = Result SendingTo Refusal} (Ok (record { client = k; what = None })) (Ok v) → ⊥
+      unsent k d = not_vacant None q (ap (λ (y : SendingTo). y.what) (ok_is (record { client = k; what = None }) v d) ∙ some) refl
+
+  send_same : (x : ObjectId) (opcode : ℕ) (as' : List SendArgument) (k : Client) (v : Option Sendable) → ((q : Sendable) → v ≡ Some q → p ≡ x.client.place → ⊥) → (send_what x opcode as' k w v).run.world.lines p ≡ w.lines p
   send_same x opcode as' k None clear = refl
   send_same x opcode as' k (Some s) clear =
-      cond_both s.message.destructor _ _ (λ (v : World). v.lines p ≡ w.lines p) (λ b. away p x.client.place _ _ clear) (λ b. away p x.client.place _ _ clear)
+      cond_both s.message.destructor _ _ (λ (v : World). v.lines p ≡ w.lines p) (λ b. away p x.client.place _ _ (clear s refl)) (λ b. away p x.client.place _ _ (clear s refl))
 
-  post_same : (x : ObjectId) (code : ℕ) (text : List ℕ) (k : Client) → (p ≡ x.client.place → ⊥) → (post_act x code text w k).run.world.lines p ≡ w.lines p
-  post_same x code text k clear = cond_both (is_live k.state) _ _ (λ (d : Done KillAnswer). d.run.world.lines p ≡ w.lines p) (λ b. away p x.client.place _ _ clear) (λ b. refl)
+  post_same : (x : ObjectId) (code : ℕ) (text : List ℕ) (k : Client) → client_at w x.client ≡ Some k → (Reached w x.client p → ⊥) → (post_act x code text w k).run.world.lines p ≡ w.lines p
+  post_same x code text k there clear =
+      cond_both (is_live k.state) _ _ (λ (d : Done KillAnswer). d.run.world.lines p ≡ w.lines p) (λ l. away p x.client.place _ _ (λ e. clear (k, there, l, e))) (λ b. refl)
+
+  posts_to : (x : ObjectId) (text : List ℕ) (k : Client) → post_check x text w ≡ Ok k → client_at w x.client ≡ Some k
+  posts_to x text k e = the_client_lem w x.client k (passed (unless (postable text) BadSize) (λ (u : Unit {0}). the_client w x.client) k e).2
 
   add_same : (row version handler : ℕ) (r : Result ℕ Refusal)
       → ((i : GlobalId) × ((checked added r w (add_act t row version handler w)).answer ≡ added (Ok i)) × ((l : Listener w p) × Shown t w l i handler) → ⊥)
@@ -185,7 +223,8 @@ module _ (t : Terms) (w : World) (p : ℕ) where
 
   all_same : (c : Call) → (Touches t c w p → ⊥) → (perform t c w).run.world.lines p ≡ w.lines p
   all_same (admit d) clear = admit_same d (admit_check w) clear
-  all_same (step c b) clear = checked_same stepped (step_check c b w) (step_act t c b w) (λ k. away p c.place _ _ clear)
+  all_same (step c b) clear = found_same stepped (step_check c b w) (step_act t c b w)
+      (λ k e. let g = checks t c b w k e in away p c.place _ _ (λ here. clear (k, g.0, g.1.0, here)))
   all_same (settle_plain x) clear =
       cond_both (same_ticket w.engine.outstanding (out.Plain x.request)) _ _ (λ (o : Outcome). o.run.world.lines p ≡ w.lines p) (λ b. settle_same x.request clear) (λ b. refl)
   all_same (settle_making x d) clear =
@@ -193,13 +232,15 @@ module _ (t : Terms) (w : World) (p : ℕ) where
       (λ b. let s = settle_sender x.request.origin (from w) in child_same x.request.child d (living s.run.world x.request.child) s.run (settle_same x.request.origin clear)) (λ b. refl)
   all_same (create c row version d) clear = checked_same created (create_check t c row w) (create_act c row version d w)
       (λ x. still p c (create_seat c x.id row version (Number d) (seat c x.client (from w))) (from w) refl)
-  all_same (destroy x) clear = checked_same destroyed (destroy_check x w) (destroy_act x w) (λ o. away p x.client.place _ _ clear)
-  all_same (send x opcode as') clear = checked_same sent (send_check t x opcode as' w) (send_act x opcode as' w) (λ s. send_same x opcode as' s.client s.what clear)
+  all_same (destroy x) clear = checked_same destroyed (destroy_check x w) (destroy_act x w) (λ o. end_same x (mark_of o) o.client clear)
+  all_same (send x opcode as') clear = found_same sent (send_check t x opcode as' w) (send_act x opcode as' w)
+      (λ s e. send_same x opcode as' s.client s.what (λ q some here. let l = sends_live x opcode as' s q e some in clear (l.0, l.1, l.2, here)))
   all_same (look x) clear = told_same looked (the_owned w x) _
   all_same (set_call x d) clear = checked_same changed (the_owned w x) (set_act x d w) (λ o. refl)
   all_same (find c id) clear = told_same found (the_client w c) _
   all_same (next c id) clear = told_same found_next (the_client w c) _
-  all_same (post x code text) clear = checked_same posted (post_check x text w) (post_act x code text w) (λ k. post_same x code text k clear)
+  all_same (post x code text) clear =
+      found_same posted (post_check x text w) (post_act x code text w) (λ k e. post_same x code text k (posts_to x text k e) clear)
   all_same (kill c r) clear = checked_same killed (kill_check t c r w) (kill_act c r w)
       (λ k. cond_both (is_live k.state) _ _ (λ (d : Done KillAnswer). d.run.world.lines p ≡ w.lines p) (λ b. still p c (kill_seat r (seat c k (from w))) (from w) refl) (λ b. refl))
   all_same (add row version handler) clear = add_same row version handler (add_check t row version w) clear

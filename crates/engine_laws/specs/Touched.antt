@@ -1,5 +1,6 @@
 -- Which lines a call touches.
-use Rattle.std.specs.Prelude.{◌≡◌, ℕ, true, ◌⊎◌, List, [], ◌∷◌, Some, None, Ok, Option}
+use Rattle.std.specs.Prelude.{◌≡◌, ℕ, ◌<◌, true, ◌⊎◌, List, [], ◌∷◌, Some, None, Ok, Option}
+use Rattle.map.specs.Map.{limit}
 use Rattle.backend.specs.declared.ids.ClientId.{ClientId}
 use Rattle.backend.specs.declared.ids.ObjectId.{ObjectId}
 use Rattle.backend.specs.declared.ids.GlobalId.{GlobalId}
@@ -28,27 +29,35 @@ pub record Listener (w : World) (p : ℕ) : Type 0 where
 abbrev pub Shown : {p : ℕ} → Terms → (w : World) → Listener w p → GlobalId → ℕ → Type 0
 Shown t w l i handler = t.shows l.registry.client l.client.«data» i handler ≡ true
 
--- a destructor ends its sender, at whose client delete_id is sent
-abbrev pub Ends : Origin → ℕ → Type 0
-Ends o p = (o.destructor ≡ true) × (p ≡ o.sender.client.place)
+-- the client of a handle is there and not killed, at this place
+abbrev pub Reached : World → ClientId → ℕ → Type 0
+Reached w c p = (k : Client) × (client_at w c ≡ Some k) × (is_live k.state ≡ true) × (p ≡ c.place)
 
--- The line of the place may be touched. An admission opens the line of the client that it admits; a settle sends delete_id where the
--- request is a destructor; a tidy carries away the events of a client whose place it vacates; a global that is added is told to the
--- registries that may see it, and one that is disabled, or removed without that, to all; a look, a set, a find, a next, a create and a
--- kill touch no line; and every other call touches the line of the client that its handle names.
+-- delete_id is sent for an object of the client's half, to its client at this place
+abbrev pub Deleted : ObjectId → ℕ → Type 0
+Deleted x p = (x.id < limit) × (p ≡ x.client.place)
+
+-- a destructor ends its sender
+abbrev pub Ends : Origin → ℕ → Type 0
+Ends o p = (o.destructor ≡ true) × Deleted o.sender p
+
+-- The line of the place may be touched. An admission opens the line of the client that it admits. A step, a send and a post touch the
+-- line of their client, and none where it is killed. A destroy, and a settle of a destructor, send delete_id, also to a killed client. A
+-- global that is added is told to the registries that may see it, and one that is disabled or removed, if it was not disabled before, to all. A flush
+-- carries away the events of its client, and a tidy those of the client whose place it vacates. The other calls touch no line.
 abbrev pub Touches : Terms → Call → World → ℕ → Type 0
 Touches t (admit d) w p = (c : ClientId) × ((perform t (admit d) w).answer ≡ admitted (Ok c)) × (p ≡ c.place)
-Touches t (step c b) w p = p ≡ c.place
+Touches t (step c b) w p = Reached w c p
 Touches t (settle_plain x) w p = Ends x.request p
 Touches t (settle_making x d) w p = Ends x.request.origin p
 Touches t (create c row version d) w p = ⊥
-Touches t (destroy x) w p = p ≡ x.client.place
-Touches t (send x opcode as') w p = p ≡ x.client.place
+Touches t (destroy x) w p = Deleted x p
+Touches t (send x opcode as') w p = Reached w x.client p
 Touches t (look x) w p = ⊥
 Touches t (set x d) w p = ⊥
 Touches t (find c id) w p = ⊥
 Touches t (next c id) w p = ⊥
-Touches t (post x code text) w p = p ≡ x.client.place
+Touches t (post x code text) w p = Reached w x.client p
 Touches t (kill c r) w p = ⊥
 Touches t (add row version handler) w p =
     (i : GlobalId) × ((perform t (add row version handler) w).answer ≡ added (Ok i)) × ((l : Listener w p) × Shown t w l i handler)
