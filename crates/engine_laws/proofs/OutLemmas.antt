@@ -1,14 +1,16 @@
 -- From what is known of a request to what a step of its client answers.
 use Rattle.std.proofs.Common.{◌≡◌, ℕ, ◌≤◌, Bool, true, false, eqb, ltb, not, ◌⊎◌, List, [], ◌∷◌, length, is_some, Some, None, Ok, Err, Option, Result, sym, refl, ap, ◌∙◌, subst, inl, inr, ⊎_elim}
 use Rattle.std.proofs.lemmas.Bool.{cond-true, cond-false, cases_Bool, eq-eqb, le-ltb, and_from, false≢true}
-use Rattle.map.specs.declared.DataMark.TheVariants.{Awaited}
+use Rattle.map.specs.declared.DataMark.TheVariants.{Own, Awaited}
+use Rattle.map.specs.declared.DataMark.{DataMark}
+use Rattle.map.specs.Named.{agreeing}
 use Rattle.map.specs.declared.Object.{Object}
 use Rattle.map.specs.declared.ObjectData.{ObjectData}
 use Rattle.map.specs.Map.{find_in}
 use Rattle.laws.proofs.Lookup.{answers}
 use Rattle.protocol.specs.declared.argument.ArgumentType.{ArgumentType}
 use Rattle.protocol.specs.declared.refusal.Refusal.{Refusal}
-use Rattle.protocol.specs.declared.refusal.Refusal.TheVariants.{BadSize, TicketOutstanding, NoClient, ClientKilled}
+use Rattle.protocol.specs.declared.refusal.Refusal.TheVariants.{BadSize, TicketOutstanding, NoClient, ClientKilled, DeadObject}
 use Rattle.protocol.specs.Lawful.{Lawful}
 use Rattle.protocol.specs.Meaning.{request_in}
 use Rattle.protocol.specs.Model.{MessageModel}
@@ -22,7 +24,6 @@ use Rattle.backend.specs.declared.ticket.Outstanding.{Outstanding}
 use Rattle.backend.specs.declared.ticket.Outstanding.TheVariants as out
 use Rattle.backend.specs.declared.answers.StepAnswer.{StepAnswer}
 use Rattle.backend.specs.declared.answers.StepAnswer.TheVariants.{Idle, Closed, Synced, Registered, Plain, Making, Failed}
-use Rattle.backend.specs.declared.answers.ObjectInfo.{ObjectInfo}
 use Rattle.backend.specs.Ids.{local_of}
 use Rattle.backend.specs.World.{Terms, World, client_at, is_live}
 use Rattle.backend.specs.Acts.{Seat, Run, from, seat}
@@ -35,7 +36,8 @@ use Rattle.accounts.proofs.Books.{not_vacant}
 use Rattle.accounts.proofs.Kept.{client_same}
 use Rattle.engine_laws.specs.Steps.{Answers, Request, IsSync, IsGetRegistry, IsPlain, IsMaking, ticket_in, by_engine, at_fault, after, Takes, SoundRequestsHandOut}
 use Rattle.engine_laws.proofs.StepLemmas.{taken, known, works}
-use Rattle.engine_laws.proofs.TicketLemmas.{Waits, Fits, dispatched_comes}
+use Rattle.engine_laws.specs.Touched.{OnRoll}
+use Rattle.engine_laws.proofs.TicketLemmas.{Fits, dispatched_comes}
 
 -- a look finds what is there
 look_found : (t : Terms) (v : World) (x : ObjectId) (k : Client) (o : Object ObjectData) → client_at v x.client ≡ Some k → find_in k.map x.id ≡ Some o → o.«data».serial ≡ x.serial → o.row ≡ x.row
@@ -46,6 +48,14 @@ look_found t v x k o there found serial row =
     (ap (λ (z : Option Client). present z NoClient) there)
     ∙ ap (λ (r : Result (Object ObjectData) Refusal). passing r (λ (y : Object ObjectData). Ok (record { client = k; object = y })))
     (ap alive (answers k.map (local_of x) o (record { live = found; serial_agrees = serial; row_agrees = row }))))
+
+-- and finds nothing where no object has the id
+look_gone : (t : Terms) (v : World) (x : ObjectId) (k : Client) → client_at v x.client ≡ Some k → find_in k.map x.id ≡ None → (perform t (look x) v).answer ≡ looked (Err DeadObject)
+look_gone t v x k there gone =
+    ap (λ (r : Result Owned Refusal). (told_by looked r v info_of).answer)
+    (ap (λ (r : Result Client Refusal). passing r (λ (q : Client). passing (the_object q x) (λ (y : Object ObjectData). Ok (record { client = q; object = y }))))
+    (ap (λ (z : Option Client). present z NoClient) there)
+    ∙ ap (λ (f : Option (Object ObjectData)). passing (alive (agreeing f (local_of x))) (λ (y : Object ObjectData). Ok (record { client = k; object = y }))) gone)
 
 module _ (t : Terms) (lawful : Lawful t.rows) (c : ClientId) (b : Buffers) (w : World) where
   abbrev line : Line
@@ -72,11 +82,11 @@ module _ (t : Terms) (lawful : Lawful t.rows) (c : ClientId) (b : Buffers) (w : 
   Broke (Making x) = ⊥
   Broke (Failed e) = Unit {0}
 
-  abbrev FitsRead : (k : Client) (q : Waiting) → Reads k q → StepAnswer → Seat → Type 0
-  FitsRead k q d a s = Fits place lawful k (others line.requests) q.sender q.opcode d.object d.message d.content.arguments a s
+  abbrev FitsRead : (k : Client) (q : Waiting) → Reads k q → StepAnswer → Seat → List (Option ObjectId) → Type 0
+  FitsRead k q d a s roll = Fits place lawful k (others line.requests) q.sender q.opcode d.object d.message d.content.arguments a s roll
 
   abbrev Looked : Client → Waiting → Stepped → Type 0
-  Looked k q r = Broke r.answer ⊎ ((d : Reads k q) × FitsRead k q d r.answer r.seat)
+  Looked k q r = Broke r.answer ⊎ ((d : Reads k q) × FitsRead k q d r.answer r.seat r.roll)
 
   module _ (k : Client) (there : client_at w c ≡ Some k) (q : Waiting) (qs : List Waiting) (first : line.requests ≡ q ∷ qs) where
     abbrev s : Seat
@@ -109,8 +119,8 @@ module _ (t : Terms) (lawful : Lawful t.rows) (c : ClientId) (b : Buffers) (w : 
   abbrev Told : StepAnswer → Type 0
   Told Idle = Unit {0}
   Told Closed = Unit {0}
-  Told (Synced e) = ((r : Request t c w) × IsSync r e) × Takes t c b w
-  Told (Registered x) = ((r : Request t c w) × IsGetRegistry r x) × Takes t c b w
+  Told (Synced e) = ((r : Request t c w) × IsSync r e (after t c b w)) × Takes t c b w
+  Told (Registered x) = ((r : Request t c w) × IsGetRegistry r x (after t c b w)) × Takes t c b w
   Told (Plain x) = ((r : Request t c w) × IsPlain r x.request) × Takes t c b w
   Told (Making x) = ((r : Request t c w) × IsMaking r x.request (after t c b w)) × Takes t c b w
   Told (Failed e) = Unit {0}
@@ -144,22 +154,47 @@ module _ (t : Terms) (lawful : Lawful t.rows) (c : ClientId) (b : Buffers) (w : 
         ap (λ (v : Run). (v.world.lines c.place).requests) runs
         ∙ (ap (λ (l : Line). l.requests) (cond-true (eqb c.place c.place) r.seat.line line (eq-eqb c.place c.place refl)) ∙ e)
 
-    child_looks : (x : ObjectId) → Waits c x r.seat → r.seat.client.serial ≡ k.serial
-        → (info : ObjectInfo) × ((perform t (look x) (after t c b w)).answer ≡ looked (Ok info)) × (info.row ≡ x.row) × (info.mark ≡ Awaited)
-    child_looks x waits serial =
-        let o : Object ObjectData = record { row = x.row; version = waits.version; «data» = record { serial = x.serial; mark = Awaited } } in
-        let at : client_at (after t c b w) c ≡ Some r.seat.client = ap (λ (v : Run). client_at v.world c) runs ∙ client_same w c k there r.seat.client serial in (
-          info_of (record { client = r.seat.client; object = o }),
-          look_found t (after t c b w) x r.seat.client o (ap (client_at (after t c b w)) waits.whose ∙ at) waits.there refl refl,
-          refl,
-          refl,
-        )
+    client_after : r.seat.client.serial ≡ k.serial → client_at (after t c b w) c ≡ Some r.seat.client
+    client_after serial = ap (λ (v : Run). client_at v.world c) runs ∙ client_same w c k there r.seat.client serial
 
-    fits_told : (d : Reads k q) (a : StepAnswer) → FitsRead k q d a r.seat → Told a
+    -- an object that is live at the end is found by a look
+    looks : (x : ObjectId) (version : ℕ) (mark : DataMark) → x.client ≡ c → r.seat.client.serial ≡ k.serial
+        → find_in r.seat.client.map x.id ≡ Some (record { row = x.row; version = version; «data» = record { serial = x.serial; mark = mark } })
+        → (perform t (look x) (after t c b w)).answer ≡ looked (Ok (record { row = x.row; version = version; mark = mark }))
+    looks x version mark whose serial found =
+        look_found t (after t c b w) x r.seat.client (record { row = x.row; version = version; «data» = record { serial = x.serial; mark = mark } })
+        (ap (client_at (after t c b w)) whose ∙ client_after serial) found refl refl
+
+    fits_told : (d : Reads k q) (a : StepAnswer) → FitsRead k q d a r.seat r.roll → Told a
     fits_told d Idle f = tt
     fits_told d Closed f = tt
-    fits_told d (Synced e) f = ((requested d, record { of_display = f.row; opcode = f.code; callback = f.callback; whose = f.whose }), takes f.taken)
-    fits_told d (Registered x) f = ((requested d, record { of_display = f.row; opcode = f.code; registry = f.registry; whose = f.whose }), takes f.taken)
+    fits_told d (Synced e) f = (
+      (
+        requested d,
+        record {
+          of_display = f.row;
+          opcode = f.code;
+          callback = f.callback;
+          whose = f.whose;
+          ended = look_gone t (after t c b w) e.object r.seat.client (ap (client_at (after t c b w)) f.whose ∙ client_after f.serial) f.ended;
+        },
+      ),
+      takes f.taken,
+    )
+    fits_told d (Registered x) f = (
+      (
+        requested d,
+        record {
+          of_display = f.row;
+          opcode = f.code;
+          registry = f.registry;
+          whose = f.whose;
+          live = (record { row = x.row; version = 1; mark = Own }, looks x 1 Own f.whose f.serial f.lives, refl);
+          on_roll = subst (OnRoll x) (ap (λ (v : Run). v.world.engine.registry.roll) (sym runs)) f.on_roll;
+        },
+      ),
+      takes f.taken,
+    )
     fits_told d (Plain x) f =
         ((requested d, record { not_display = f.not_display; not_registry = f.not_registry; says = f.says; makes_none = f.none }), takes f.taken)
     fits_told d (Making x) f = (
@@ -169,7 +204,7 @@ module _ (t : Terms) (lawful : Lawful t.rows) (c : ClientId) (b : Buffers) (w : 
           not_display = f.not_display;
           says = f.says;
           makes_one = f.one;
-          child_waits = child_looks x.request.child f.waits f.serial;
+          child_waits = (record { row = x.request.child.row; version = f.waits.version; mark = Awaited }, looks x.request.child f.waits.version Awaited f.waits.whose f.serial f.waits.there, refl, refl);
           bind = f.bind;
           other = f.other;
         },

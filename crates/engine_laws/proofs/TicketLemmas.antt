@@ -1,12 +1,13 @@
 -- Which answer a step gives to a request, and what is outstanding after it.
-use Rattle.std.proofs.Common.{◌≡◌, ℕ, zero, suc, ◌+◌, ◌≤◌, true, cond, eqb, ltb, ◌≢◌, List, [], ◌∷◌, take, is_some, Some, None, Ok, Err, Option, Result, sym, refl, ap, ◌∙◌, arith}
+use Rattle.std.proofs.Common.{◌≡◌, ℕ, zero, suc, ◌+◌, ◌≤◌, true, cond, eqb, ltb, ◌≢◌, List, [], ◌∷◌, set, take, is_some, Some, None, Ok, Err, Option, Result, sym, subst, inl, inr, refl, ap, ◌∙◌, arith}
 use Rattle.std.proofs.lemmas.Bool.{cond_both, eqb-true, eqb-false, false≢true}
 use Rattle.std.specs.List.{slice_get}
-use Rattle.map.specs.declared.DataMark.{DataMark}
 use Rattle.map.specs.declared.DataMark.TheVariants.{Own, Awaited}
 use Rattle.map.specs.declared.fault.MapFault.{MapFault}
 use Rattle.map.specs.declared.Object.{Object}
 use Rattle.map.specs.declared.ObjectData.{ObjectData}
+use Rattle.places.specs.Places.{lowest, places_new}
+use Rattle.map.specs.declared.ObjectMap.{ObjectMap}
 use Rattle.map.specs.Map.{limit, find_in, insert_answer}
 use Rattle.protocol.specs.declared.argument.Argument.{Argument}
 use Rattle.protocol.specs.CoreRows.{display, registry, core_rows}
@@ -17,7 +18,8 @@ use Rattle.protocol.specs.Model.{MessageModel, RowModel}
 use Rattle.protocol.specs.Tallies.{count}
 use Rattle.message.specs.declared.part.Part.{Part}
 use Rattle.message.specs.Events.{EventModel, sendable}
-use Rattle.wire.specs.Line.{Line, Waiting, written}
+use Rattle.wire.specs.Line.{Line, Waiting, write_answer, written}
+use Rattle.wire.specs.declared.answers.WriteError.{WriteError}
 use Rattle.backend.specs.declared.ids.ClientId.{ClientId}
 use Rattle.backend.specs.declared.ids.ObjectId.{ObjectId}
 use Rattle.backend.specs.declared.client.Client.{Client}
@@ -30,15 +32,18 @@ use Rattle.backend.specs.declared.answers.StepAnswer.TheVariants.{Idle, Closed, 
 use Rattle.backend.specs.Events.{done_event, delete_id, global_event}
 use Rattle.backend.specs.Texts.{name_in}
 use Rattle.backend.specs.World.{Terms, is_live}
-use Rattle.backend.specs.Acts.{Seat, offer, tell, fresh, new_object, enter, end}
+use Rattle.backend.specs.Acts.{Seat, lost, offer, tell, fresh, new_object, enter}
 use Rattle.backend.specs.Arguments.{Asked, Failing, child_row, Walked, walk}
 use Rattle.backend.specs.Reading.{BindAsked, only_new_id, bind_arguments}
 use Rattle.backend.specs.Registries.{roll_end, visible, announce, announce_all}
 use Rattle.backend.specs.Requests.{Buffers, Stepped, Place, synced, enlisted, registered, displayed, bind_entered, bind_to, bind_named, bound, hand_out, concluded, asked, origin_of, dispatched}
 use Rattle.accounts.proofs.Books.{not_vacant, some_is}
 use Rattle.accounts.proofs.Maps.{insert_entry}
+use Rattle.accounts.proofs.Seats.{lost_map}
+use Rattle.laws.proofs.Find.{removed_none}
 use Rattle.accounts.proofs.Steps.{one_new_id}
 use Rattle.accounts.proofs.Walks.{walk_any}
+use Rattle.engine_laws.specs.Touched.{OnRoll}
 use Rattle.engine_laws.proofs.WalkLemmas.{walk_enters_none, walk_made_none}
 
 -- Events leave the requests that wait.
@@ -47,25 +52,58 @@ written_waits : (e : EventModel) (l : Line) → (written e l).requests ≡ l.req
 written_waits e l =
     cond_both (eqb l.allowance 0) _ _ (λ (q : Line). q.requests ≡ l.requests) (λ _. refl) (λ _. cond_both (sendable e) _ _ (λ (q : Line). q.requests ≡ l.requests) (λ _. refl) (λ _. refl))
 
-abbrev Same : Seat → Seat → Type 0
-Same s y = y.line.requests ≡ s.line.requests
+-- nor do they change the objects, or who the client is
+record Alike (s y : Seat) : Type 0 where
+  waits : y.line.requests ≡ s.line.requests
+  objects : y.client.map ≡ s.client.map
+  serial : y.client.serial ≡ s.client.serial
 
-tell_waits : (e : EventModel) (s : Seat) → Same s (tell e s)
-tell_waits e s = cond_both (is_live s.client.state) _ _ (Same s) (λ _. written_waits e s.line) (λ _. refl)
+alike : (s : Seat) → Alike s s
+alike s = record { waits = refl; objects = refl; serial = refl }
 
-end_waits : (x : ObjectId) (mark : DataMark) (s : Seat) → Same s (end x mark s)
-end_waits x mark s = cond_both (ltb x.id limit) _ _ (Same s) (λ _. written_waits (delete_id x.id) s.line) (λ _. refl)
+lost_serial : (r : Result (Unit {0}) WriteError) (k : Client) → (lost r k).serial ≡ k.serial
+lost_serial (Ok u) k = refl
+lost_serial (Err e) k = refl
 
-announce_waits : (t : Terms) (x : ObjectId) (name : ℕ) (g : Global) (s : Seat) → Same s (announce t x name g s)
-announce_waits t x name g s =
-    cond_both (visible t x.client s.client name g) _ _ (Same s) (λ _. tell_waits (global_event x.id name (name_in t.rows g.row) g.version) s) (λ _. refl)
+offer_alike : (e : EventModel) (s : Seat) → Alike s (offer e s)
+offer_alike e s = record {
+  waits = written_waits e s.line;
+  objects = lost_map (write_answer e s.line) s.client;
+  serial = lost_serial (write_answer e s.line) s.client;
+}
 
-announce_all_waits : (t : Terms) (x : ObjectId) (name : ℕ) (gs : List (Option Global)) (s : Seat) → Same s (announce_all t x name gs s)
-announce_all_waits t x name [] s = refl
-announce_all_waits t x name (None ∷ gs) s = announce_all_waits t x (name + 1) gs s
-announce_all_waits t x name (Some g ∷ gs) s =
-    announce_all_waits t x (name + 1) gs (cond g.disabled s (announce t x name g s))
-    ∙ cond_both g.disabled _ _ (Same s) (λ _. refl) (λ _. announce_waits t x name g s)
+tell_alike : (e : EventModel) (s : Seat) → Alike s (tell e s)
+tell_alike e s = cond_both (is_live s.client.state) _ _ (Alike s) (λ _. offer_alike e s) (λ _. alike s)
+
+-- before an object is removed, delete_id is offered or not
+abbrev cleared : ObjectId → Seat → Seat
+cleared x s = cond (ltb x.id limit) (offer (delete_id x.id) s) s
+
+cleared_alike : (x : ObjectId) (s : Seat) → Alike s (cleared x s)
+cleared_alike x s = cond_both (ltb x.id limit) _ _ (Alike s) (λ _. offer_alike (delete_id x.id) s) (λ _. alike s)
+
+announce_alike : (t : Terms) (x : ObjectId) (name : ℕ) (g : Global) (s : Seat) → Alike s (announce t x name g s)
+announce_alike t x name g s =
+    cond_both (visible t x.client s.client name g) _ _ (Alike s) (λ _. tell_alike (global_event x.id name (name_in t.rows g.row) g.version) s) (λ _. alike s)
+
+further : (s y z : Seat) → Alike y z → Alike s y → Alike s z
+further s y z a b = record { waits = a.waits ∙ b.waits; objects = a.objects ∙ b.objects; serial = a.serial ∙ b.serial }
+
+announce_all_alike : (t : Terms) (x : ObjectId) (name : ℕ) (gs : List (Option Global)) (s : Seat) → Alike s (announce_all t x name gs s)
+announce_all_alike t x name [] s = alike s
+announce_all_alike t x name (None ∷ gs) s = announce_all_alike t x (name + 1) gs s
+announce_all_alike t x name (Some g ∷ gs) s =
+    let y = cond g.disabled s (announce t x name g s) in
+    further s y (announce_all t x (name + 1) gs y) (announce_all_alike t x (name + 1) gs y)
+    (cond_both g.disabled s (announce t x name g s) (Alike s) (λ _. alike s) (λ _. announce_alike t x name g s))
+
+-- one more at the end of the roll is on it
+set_on_roll : (n : ℕ) (xs : List (Option ObjectId)) (j i : ℕ) (x : ObjectId) → lowest n xs ≡ Some j → j ≡ n + i → OnRoll x (set xs i (Some x))
+set_on_roll n [] j i x e h = absurd (not_vacant None j e refl)
+set_on_roll n (None ∷ xs) j zero x e h = inl refl
+set_on_roll n (None ∷ xs) j (suc i) x e h = let q : n ≡ j = some_is n j e in absurd (omega arith)
+set_on_roll n (Some y ∷ xs) j zero x e h = inl refl
+set_on_roll n (Some y ∷ xs) j (suc i) x e h = inr (set_on_roll (n + 1) xs j i x e (omega arith))
 
 -- The core's rows.
 
@@ -121,13 +159,18 @@ pub record Waits (c : ClientId) (x : ObjectId) (s : Seat) : Type 0 where
 
 module _ (p : Place) (lawful : Lawful p.terms.rows) (k : Client) (rs : List Waiting) (id opcode : ℕ) (x : Object ObjectData) (m : MessageModel) (as' : List (Argument ℕ Part)) where
   pub record SyncFits (e : End) (s : Seat) : Type 0 where
+    pub ended : find_in s.client.map e.object.id ≡ None
+    pub serial : s.client.serial ≡ k.serial
     pub row : x.row ≡ 1
     pub code : opcode ≡ 0
     pub callback : e.object.row ≡ 3
     pub whose : e.object.client ≡ p.client
     pub taken : s.line.requests ≡ rs
 
-  pub record RegistryFits (y : ObjectId) (s : Seat) : Type 0 where
+  pub record RegistryFits (y : ObjectId) (s : Seat) (roll : List (Option ObjectId)) : Type 0 where
+    pub lives : find_in s.client.map y.id ≡ Some (record { row = y.row; version = 1; «data» = record { serial = y.serial; mark = Own } })
+    pub serial : s.client.serial ≡ k.serial
+    pub on_roll : OnRoll y roll
     pub row : x.row ≡ 1
     pub code : opcode ≡ 1
     pub registry : y.row ≡ 2
@@ -151,17 +194,17 @@ module _ (p : Place) (lawful : Lawful p.terms.rows) (k : Client) (rs : List Wait
     pub other : x.row ≢ 2 → (q.bound ≡ None) × (m.child ≡ Some q.child.row)
     pub taken : s.line.requests ≡ rs
 
-  abbrev pub Fits : StepAnswer → Seat → Type 0
-  Fits Idle s = ⊥
-  Fits Closed s = ⊥
-  Fits (Synced e) s = SyncFits e s
-  Fits (Registered y) s = RegistryFits y s
-  Fits (Plain y) s = PlainFits y.request s
-  Fits (Making y) s = MakingFits y.request s
-  Fits (Failed e) s = Unit {0}
+  abbrev pub Fits : StepAnswer → Seat → List (Option ObjectId) → Type 0
+  Fits Idle s roll = ⊥
+  Fits Closed s roll = ⊥
+  Fits (Synced e) s roll = SyncFits e s
+  Fits (Registered y) s roll = RegistryFits y s roll
+  Fits (Plain y) s roll = PlainFits y.request s
+  Fits (Making y) s roll = MakingFits y.request s
+  Fits (Failed e) s roll = Unit {0}
 
   abbrev pub Comes : Stepped → Type 0
-  Comes r = Fits r.answer r.seat
+  Comes r = Fits r.answer r.seat r.roll
 
   abbrev o : Origin
   o = origin_of p.client id opcode x m
@@ -169,33 +212,46 @@ module _ (p : Place) (lawful : Lawful p.terms.rows) (k : Client) (rs : List Wait
   module _ (s : Seat) (b : Buffers) (gone : s.line.requests ≡ rs) (kept : s.client.serial ≡ k.serial) (named : request_in p.terms.rows x.row opcode ≡ Some m) where
     synced_comes : (i : ℕ) → x.row ≡ 1 → opcode ≡ 0 → (r : Result (Unit {0}) MapFault) → Comes (synced p i r s b)
     synced_comes i one z (Err f) = tt
-    synced_comes i one z (Ok u) = record {
-      row = one;
-      code = z;
-      callback = refl;
-      whose = refl;
-      taken = end_waits (fresh p.client i 3 s.client) Own (offer (done_event i) (enter p.client i 3 1 Own s)) ∙ (written_waits (done_event i) s.line ∙ gone);
-    }
+    synced_comes i one z (Ok u) =
+        let y = fresh p.client i 3 s.client in
+        let made = enter p.client i 3 1 Own s in
+        let told = offer_alike (done_event i) made in
+        let before = cleared_alike y (offer (done_event i) made) in
+        record {
+          ended = removed_none (cleared y (offer (done_event i) made)).client.map i;
+          serial = before.serial ∙ (told.serial ∙ kept);
+          row = one;
+          code = z;
+          callback = refl;
+          whose = refl;
+          taken = before.waits ∙ (told.waits ∙ gone);
+        }
 
-    enlisted_comes : (i : ℕ) → x.row ≡ 1 → opcode ≡ 1 → (v : Option ℕ) → Comes (enlisted p i v s b)
-    enlisted_comes i one z None = tt
-    enlisted_comes i one z (Some j) = record {
-      row = one;
-      code = z;
-      registry = refl;
-      whose = refl;
-      taken = announce_all_waits p.terms (fresh p.client i 2 s.client) 1 p.registry.globals.places (enter p.client i 2 1 Own s) ∙ gone;
-    }
+    enlisted_comes : (i : ℕ) → x.row ≡ 1 → opcode ≡ 1 → insert_answer s.client.map i ≡ Ok tt → (v : Option ℕ) → roll_end p.registry.roll ≡ v → Comes (enlisted p i v s b)
+    enlisted_comes i one z e None at_end = tt
+    enlisted_comes i one z e (Some j) at_end =
+        let y = fresh p.client i 2 s.client in
+        let told = announce_all_alike p.terms y 1 p.registry.globals.places (enter p.client i 2 1 Own s) in
+        record {
+          lives = ap (λ (n : ObjectMap ObjectData). find_in n i) told.objects ∙ (insert_entry s.client.map i (new_object 2 1 Own s.client) e).there;
+          serial = told.serial ∙ kept;
+          on_roll = subst (λ (v : Option ℕ). OnRoll y (places_new v p.registry.roll y)) (sym at_end) (set_on_roll 0 p.registry.roll j j y at_end (omega arith));
+          row = one;
+          code = z;
+          registry = refl;
+          whose = refl;
+          taken = told.waits ∙ gone;
+        }
 
-    registered_comes : (i : ℕ) → x.row ≡ 1 → opcode ≡ 1 → (r : Result (Unit {0}) MapFault) → Comes (registered p i r s b)
-    registered_comes i one z (Err f) = tt
-    registered_comes i one z (Ok u) = enlisted_comes i one z (roll_end p.registry.roll)
+    registered_comes : (i : ℕ) → x.row ≡ 1 → opcode ≡ 1 → (r : Result (Unit {0}) MapFault) → insert_answer s.client.map i ≡ r → Comes (registered p i r s b)
+    registered_comes i one z (Err f) e = tt
+    registered_comes i one z (Ok u) e = enlisted_comes i one z e (roll_end p.registry.roll) refl
 
     displayed_comes : x.row ≡ 1 → (v : Option ℕ) → Comes (displayed p opcode v s b)
     displayed_comes one None = tt
     displayed_comes one (Some i) =
         cond_both (eqb opcode 0) _ _ Comes (λ z. synced_comes i one (eqb-true opcode 0 z) (insert_answer s.client.map i))
-        (λ n. registered_comes i one (display_opcode p.terms.rows lawful x.row opcode m one named (eqb-false opcode 0 n)) (insert_answer s.client.map i))
+        (λ n. registered_comes i one (display_opcode p.terms.rows lawful x.row opcode m one named (eqb-false opcode 0 n)) (insert_answer s.client.map i) refl)
 
     module _ (ne : x.row ≢ 1) where
       bind_entered_comes : (name version i : ℕ) (g : Global) → x.row ≡ 2 → (r : Result (Unit {0}) MapFault) → insert_answer s.client.map i ≡ r → Comes (bind_entered p o name version i g r s b)

@@ -1,11 +1,11 @@
 -- What a step does with the first request of its client's line.
 use Rattle.std.specs.Prelude.{◌≡◌, ℕ, ◌≤◌, Bool, true, false, ◌≢◌, [], length, is_some, Some, None, Ok, Err, Option}
-use Rattle.map.specs.declared.DataMark.TheVariants.{Awaited}
+use Rattle.map.specs.declared.DataMark.TheVariants.{Own, Awaited}
 use Rattle.map.specs.declared.Object.{Object}
 use Rattle.map.specs.declared.ObjectData.{ObjectData}
 use Rattle.map.specs.Map.{find_in}
 use Rattle.protocol.specs.declared.refusal.Refusal.{Refusal}
-use Rattle.protocol.specs.declared.refusal.Refusal.TheVariants.{TicketOutstanding}
+use Rattle.protocol.specs.declared.refusal.Refusal.TheVariants.{TicketOutstanding, DeadObject}
 use Rattle.protocol.specs.Kinds.{is_new_id, agree}
 use Rattle.protocol.specs.Lawful.{Lawful}
 use Rattle.protocol.specs.Meaning.{request_in}
@@ -29,6 +29,7 @@ use Rattle.backend.specs.World.{Terms, World, client_at, with_state}
 use Rattle.backend.specs.Acts.{from}
 use Rattle.backend.specs.Requests.{Buffers, origin_of}
 use Rattle.backend.specs.Perform.{step, stepped, look, looked, perform, buffers_after}
+use Rattle.engine_laws.specs.Touched.{OnRoll}
 use Rattle.accounts.specs.Shown.{Ticket, plain, making, ticket_of}
 
 -- a step of this client, with these buffers, gives this answer
@@ -80,19 +81,22 @@ module _ {t : Terms} {c : ClientId} {w : World} (r : Request t c w) where
   abbrev pub new_ids : ℕ
   new_ids = count is_new_id r.message.kinds
 
-  -- it is wl_display.sync, and its callback has ended
-  pub record IsSync (e : End) : Type 0 where
+  -- it is wl_display.sync, and its callback, a wl_callback, has ended
+  pub record IsSync (e : End) (after : World) : Type 0 where
     pub of_display : r.sender.row ≡ 1
     pub opcode : r.waiting.opcode ≡ 0
     pub callback : e.object.row ≡ 3
     pub whose : e.object.client ≡ c
+    pub ended : (perform t (look e.object) after).answer ≡ looked (Err DeadObject)
 
-  -- it is wl_display.get_registry, and made this registry
-  pub record IsGetRegistry (x : ObjectId) : Type 0 where
+  -- it is wl_display.get_registry, and made this wl_registry, which is live and on the roll
+  pub record IsGetRegistry (x : ObjectId) (after : World) : Type 0 where
     pub of_display : r.sender.row ≡ 1
     pub opcode : r.waiting.opcode ≡ 1
     pub registry : x.row ≡ 2
     pub whose : x.client ≡ c
+    pub live : (info : ObjectInfo) × ((perform t (look x) after).answer ≡ looked (Ok info)) × (info.mark ≡ Own)
+    pub on_roll : OnRoll x after.engine.registry.roll
 
   -- It is neither the display's nor a registry's, and makes no object: where its arguments agree with its signature, as those that a
   -- wire reads do, none is a new id.
@@ -164,8 +168,8 @@ pub record SoundRequestsHandOut : Type 0 where
   pub refused_for_that : (t : Terms) (c : ClientId) (b : Buffers) (w : World) (x : Ticket) → ticket_of w.engine.outstanding ≡ Some x
       → 192 ≤ length b.text → 4096 ≤ length b.body → (perform t (step c b) w).answer ≡ stepped (Err TicketOutstanding)
   -- The engine answers a sync and a get_registry itself, and no other request;
-  pub synced : (t : Terms) → Lawful t.rows → (c : ClientId) (b : Buffers) (w : World) (e : End) → Answers t c b w (Synced e) → ((r : Request t c w) × IsSync r e) × Takes t c b w
-  pub registered : (t : Terms) → Lawful t.rows → (c : ClientId) (b : Buffers) (w : World) (x : ObjectId) → Answers t c b w (Registered x) → ((r : Request t c w) × IsGetRegistry r x) × Takes t c b w
+  pub synced : (t : Terms) → Lawful t.rows → (c : ClientId) (b : Buffers) (w : World) (e : End) → Answers t c b w (Synced e) → ((r : Request t c w) × IsSync r e (after t c b w)) × Takes t c b w
+  pub registered : (t : Terms) → Lawful t.rows → (c : ClientId) (b : Buffers) (w : World) (x : ObjectId) → Answers t c b w (Registered x) → ((r : Request t c w) × IsGetRegistry r x (after t c b w)) × Takes t c b w
   -- a plain ticket is of a request that makes no object,
   pub plain : (t : Terms) → Lawful t.rows → (c : ClientId) (b : Buffers) (w : World) (x : PlainTicket) → Answers t c b w (Plain x) → ((r : Request t c w) × IsPlain r x.request) × Takes t c b w
   -- and a making ticket of one that makes an object.

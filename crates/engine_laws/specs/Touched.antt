@@ -42,9 +42,10 @@ abbrev pub Ends : Origin → ℕ → Type 0
 Ends o p = (o.destructor ≡ true) × Deleted o.sender p
 
 -- The line of the place may be touched. An admission opens the line of the client that it admits. A step, a send and a post touch the
--- line of their client, and none where it is killed. A destroy, and a settle of a destructor, send delete_id, also to a killed client. A
--- global that is added is told to the registries that may see it, and one that is disabled or removed, if it was not disabled before, to all. A flush
--- carries away the events of its client, and a tidy those of the client whose place it vacates. The other calls touch no line.
+-- line of their client, and none where it is killed. A destroy, and a settle of a destructor, send delete_id, also to a killed client.
+-- A global that is added is told to the registries that may see it, and one that is disabled or removed, if it was not disabled
+-- before, to all. A flush carries away the events of its client, and a tidy those of the client whose place it vacates. The other
+-- calls touch no line.
 abbrev pub Touches : Terms → Call → World → ℕ → Type 0
 Touches t (admit d) w p = (c : ClientId) × ((perform t (admit d) w).answer ≡ admitted (Ok c)) × (p ≡ c.place)
 Touches t (step c b) w p = Reached w c p
