@@ -1,5 +1,5 @@
 -- From what is known of a request to what a step of its client answers.
-use Rattle.std.proofs.Common.{◌≡◌, ℕ, ◌≤◌, Bool, true, false, eqb, ltb, not, ◌⊎◌, List, [], ◌∷◌, length, is_some, Some, None, Ok, Err, Option, Result, sym, refl, ap, ◌∙◌, subst, inl, inr, ⊎_elim}
+use Rattle.std.proofs.Common.{◌≡◌, ℕ, ◌≤◌, Bool, true, false, eqb, ltb, not, ◌⊎◌, List, [], ◌∷◌, length, is_some, Some, None, Ok, Err, Option, Result, sym, refl, ap, ◌∙◌, subst, inl, inr, ⊎_elim, arith}
 use Rattle.std.proofs.lemmas.Bool.{cond-true, cond-false, cases_Bool, eq-eqb, le-ltb, and_from, false≢true}
 use Rattle.map.specs.declared.DataMark.TheVariants.{Own, Awaited}
 use Rattle.map.specs.declared.DataMark.{DataMark}
@@ -11,7 +11,9 @@ use Rattle.laws.proofs.Lookup.{answers}
 use Rattle.protocol.specs.declared.argument.ArgumentType.{ArgumentType}
 use Rattle.protocol.specs.declared.refusal.Refusal.{Refusal}
 use Rattle.protocol.specs.declared.refusal.Refusal.TheVariants.{BadSize, TicketOutstanding, NoClient, ClientKilled, DeadObject}
+use Rattle.protocol.specs.Kinds.{is_new_id, agree}
 use Rattle.protocol.specs.Lawful.{Lawful}
+use Rattle.protocol.specs.Tallies.{count}
 use Rattle.protocol.specs.Meaning.{request_in}
 use Rattle.protocol.specs.Model.{MessageModel}
 use Rattle.queue.specs.Ring.{front, others}
@@ -32,9 +34,9 @@ use Rattle.backend.specs.Requests.{Buffers, Stepped, Place, origin_of, received_
 use Rattle.backend.specs.Calls.{is_free, roomy, step_of, step_run, step_act, info_of}
 use Rattle.backend.specs.Perform.{step, look, stepped, looked, checked, told as told_by, perform}
 use Rattle.accounts.specs.Shown.{Ticket, ticket_of}
-use Rattle.accounts.proofs.Books.{not_vacant}
+use Rattle.accounts.proofs.Books.{some_is, not_vacant}
 use Rattle.accounts.proofs.Kept.{client_same}
-use Rattle.engine_laws.specs.Steps.{Answers, Request, IsSync, IsGetRegistry, IsPlain, IsMaking, ticket_in, by_engine, at_fault, after, Takes, SoundRequestsHandOut}
+use Rattle.engine_laws.specs.Steps.{Answers, Request, IsSync, IsGetRegistry, IsPlain, IsMaking, CallsFor, new_ids, ticket_in, by_engine, at_fault, after, Takes, SoundRequestsHandOut}
 use Rattle.engine_laws.proofs.StepLemmas.{taken, known, works}
 use Rattle.engine_laws.specs.Touched.{OnRoll}
 use Rattle.engine_laws.proofs.TicketLemmas.{Fits, dispatched_comes}
@@ -268,6 +270,72 @@ module _ (t : Terms) (c : ClientId) (b : Buffers) (w : World) where
         refused_as true TicketOutstanding
         (and_from (not (ltb (length b.text) 192)) (not (ltb (length b.body) 4096)) (ap not (le-ltb (length b.text) 192 m)) (ap not (le-ltb (length b.body) 4096 n))) refl
 
+-- A step reads one request.
+
+module _ {t : Terms} {c : ClientId} {w : World} (r s : Request t c w) where
+  same_waiting : r.waiting ≡ s.waiting
+  same_waiting = some_is r.waiting s.waiting (sym r.first ∙ s.first)
+
+  same_sender : r.sender ≡ s.sender
+  same_sender =
+      let k : r.client ≡ s.client = some_is r.client s.client (sym r.there ∙ s.there) in
+      some_is r.sender s.sender (sym r.alive ∙ (ap (λ (q : Client). find_in q.map r.waiting.sender) k ∙ (ap (λ (q : Waiting). find_in s.client.map q.sender) same_waiting ∙ s.alive)))
+
+  same_message : r.message ≡ s.message
+  same_message =
+      some_is r.message s.message
+      (sym r.known ∙ (ap (λ (x : Object ObjectData). request_in t.rows x.row r.waiting.opcode) same_sender ∙ (ap (λ (q : Waiting). request_in t.rows s.sender.row q.opcode) same_waiting ∙ s.known)))
+
+  same_content : r.content ≡ s.content
+  same_content =
+      some_is r.content s.content
+      (sym r.formed ∙ (ap (λ (m : MessageModel). r.waiting.content m.kinds) same_message ∙ (ap (λ (q : Waiting). q.content s.message.kinds) same_waiting ∙ s.formed)))
+
+  row_too : r.sender.row ≡ s.sender.row
+  row_too = ap (λ (x : Object ObjectData). x.row) same_sender
+
+  new_ids_too : new_ids r ≡ new_ids s
+  new_ids_too = ap (λ (m : MessageModel). count is_new_id m.kinds) same_message
+
+  agrees_too : agree r.message.kinds r.content.arguments ≡ true → agree s.message.kinds s.content.arguments ≡ true
+  agrees_too e =
+      subst (λ (y : Content). agree s.message.kinds y.arguments ≡ true) same_content
+      (subst (λ (m : MessageModel). agree m.kinds r.content.arguments ≡ true) same_message e)
+
+module _ (t : Terms) (lawful : Lawful t.rows) (c : ClientId) (b : Buffers) (w : World) (r : Request t c w) where
+  -- nothing is called for where no request waits
+  waits_none : (a : StepAnswer) → (w.lines c.place).requests ≡ [] → CallsFor r a
+  waits_none a e = absurd (not_vacant None r.waiting (sym (ap (λ (rs : List Waiting). front rs) e) ∙ r.first) refl)
+
+  calls_for : (a : StepAnswer) → Answers t c b w a → at_fault a ≡ false → agree r.message.kinds r.content.arguments ≡ true → CallsFor r a
+  calls_for Idle e f g = waits_none Idle (known t c b w Idle e).0
+  calls_for Closed e f g = waits_none Closed (known t c b w Closed e).0
+  calls_for (Synced x) e f g =
+      let s = (tells t lawful c b w (Synced x) e).0 in
+      let one : r.sender.row ≡ 1 = row_too r s.0 ∙ s.1.of_display in
+      record { of_display = λ _. refl; without_new_id = λ ne _. absurd (ne one); with_new_id = λ ne _. absurd (ne one) }
+  calls_for (Registered x) e f g =
+      let s = (tells t lawful c b w (Registered x) e).0 in
+      let one : r.sender.row ≡ 1 = row_too r s.0 ∙ s.1.of_display in
+      record { of_display = λ _. refl; without_new_id = λ ne _. absurd (ne one); with_new_id = λ ne _. absurd (ne one) }
+  calls_for (Plain x) e f g =
+      let s = (tells t lawful c b w (Plain x) e).0 in
+      let none : new_ids r ≡ 0 = new_ids_too r s.0 ∙ s.1.makes_none (agrees_too r s.0 g) in
+      record {
+        of_display = λ one. absurd (s.1.not_display (sym (row_too r s.0) ∙ one));
+        without_new_id = λ _ _. (x, refl);
+        with_new_id = λ _ one. absurd (omega (arith, none, one));
+      }
+  calls_for (Making x) e f g =
+      let s = (tells t lawful c b w (Making x) e).0 in
+      let some : new_ids r ≡ 1 = new_ids_too r s.0 ∙ s.1.makes_one in
+      record {
+        of_display = λ one. absurd (s.1.not_display (sym (row_too r s.0) ∙ one));
+        without_new_id = λ _ none. absurd (omega (arith, none, some));
+        with_new_id = λ _ _. (x, refl);
+      }
+  calls_for (Failed x) e f g = absurd (false≢true (sym f))
+
 pub sound_requests_hand_out : SoundRequestsHandOut
 sound_requests_hand_out = record {
   hands_out = hands_out;
@@ -278,4 +346,5 @@ sound_requests_hand_out = record {
   registered = λ t lawful c b w x. tells t lawful c b w (Registered x);
   plain = λ t lawful c b w x. tells t lawful c b w (Plain x);
   making = λ t lawful c b w x. tells t lawful c b w (Making x);
+  exactly = λ t lawful c b w r a. calls_for t lawful c b w r a;
 }

@@ -58,6 +58,16 @@ pub record StepsAreNotIdle : Type 0 where
   -- A step that closes kills its client, as closed, and does nothing besides.
   pub closed_kills : (t : Terms) (c : ClientId) (b : Buffers) (w : World) (k : Client) → Answers t c b w Closed → client_at w c ≡ Some k → KillsAlone t c b w k
 
+-- a sync or a get_registry, which the engine answers itself
+abbrev pub by_engine : StepAnswer → Bool
+by_engine Idle = false
+by_engine Closed = false
+by_engine (Synced e) = true
+by_engine (Registered x) = true
+by_engine (Plain x) = false
+by_engine (Making x) = false
+by_engine (Failed e) = false
+
 -- The request that a step reads: the first of its client's line. A live object of the client sent it, the object's interface has a
 -- request of that opcode, and it has the form of that request's signature.
 pub record Request (t : Terms) (c : ClientId) (w : World) : Type 0 where
@@ -116,6 +126,12 @@ module _ {t : Terms} {c : ClientId} {w : World} (r : Request t c w) where
     pub bind : r.sender.row ≡ 2 → is_some x.bound ≡ true
     pub other : r.sender.row ≢ 2 → (x.bound ≡ None) × (r.message.child ≡ Some x.child.row)
 
+  -- the answer is the one that its sender's interface and its signature call for
+  pub record CallsFor (a : StepAnswer) : Type 0 where
+    pub of_display : r.sender.row ≡ 1 → by_engine a ≡ true
+    pub without_new_id : r.sender.row ≢ 1 → new_ids ≡ 0 → (x : PlainTicket) × (a ≡ Plain x)
+    pub with_new_id : r.sender.row ≢ 1 → new_ids ≡ 1 → (x : MakingTicket) × (a ≡ Making x)
+
 -- the ticket that an answer hands out
 abbrev pub ticket_in : StepAnswer → Option Ticket
 ticket_in Idle = None
@@ -125,16 +141,6 @@ ticket_in (Registered x) = None
 ticket_in (Plain x) = Some (plain x.request)
 ticket_in (Making x) = Some (making x.request.origin x.request.child x.request.bound)
 ticket_in (Failed e) = None
-
--- a sync or a get_registry, which the engine answers itself
-abbrev pub by_engine : StepAnswer → Bool
-by_engine Idle = false
-by_engine Closed = false
-by_engine (Synced e) = true
-by_engine (Registered x) = true
-by_engine (Plain x) = false
-by_engine (Making x) = false
-by_engine (Failed e) = false
 
 -- the request broke a rule
 abbrev pub at_fault : StepAnswer → Bool
@@ -174,3 +180,7 @@ pub record SoundRequestsHandOut : Type 0 where
   pub plain : (t : Terms) → Lawful t.rows → (c : ClientId) (b : Buffers) (w : World) (x : PlainTicket) → Answers t c b w (Plain x) → ((r : Request t c w) × IsPlain r x.request) × Takes t c b w
   -- and a making ticket of one that makes an object.
   pub making : (t : Terms) → Lawful t.rows → (c : ClientId) (b : Buffers) (w : World) (x : MakingTicket) → Answers t c b w (Making x) → ((r : Request t c w) × IsMaking r x.request (after t c b w)) × Takes t c b w
+  -- So which it is, the request tells: where it breaks no rule, and its arguments agree with its signature, one of the display's is
+  -- answered by the engine, and any other gets a making ticket where one of its arguments is a new id, and a plain one where none is.
+  pub exactly : (t : Terms) → Lawful t.rows → (c : ClientId) (b : Buffers) (w : World) (r : Request t c w) (a : StepAnswer) → Answers t c b w a → at_fault a ≡ false
+      → agree r.message.kinds r.content.arguments ≡ true → CallsFor r a
