@@ -6,3 +6,9 @@ mod CaseHalves
 mod CaseSynced
 mod CaseNewer
 mod Worked
+mod OutLemmas
+mod RefusedLemmas
+mod StepLemmas
+mod TicketLemmas
+mod TouchedLemmas
+mod WalkLemmas

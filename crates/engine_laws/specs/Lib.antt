@@ -1,1 +1,4 @@
 pub mod Cases
+pub mod Refused
+pub mod Steps
+pub mod Touched

@@ -4,3 +4,6 @@
 #![tactic(auto)]
 
 pub mod cases;
+pub mod refused;
+pub mod steps;
+pub mod touched;
