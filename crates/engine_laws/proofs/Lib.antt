@@ -1,1 +1,3 @@
 mod ToldEnds
+mod TextSizes
+mod StepTexts

@@ -1,1 +1,2 @@
 pub mod EndsOnce
+pub mod ErrorTexts

@@ -4,3 +4,4 @@
 #![tactic(auto)]
 
 pub mod ends_once;
+pub mod error_texts;
