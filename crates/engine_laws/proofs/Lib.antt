@@ -1,3 +1,4 @@
 mod ToldEnds
 mod TextSizes
 mod StepTexts
+mod KilledLines

@@ -1,2 +1,3 @@
 pub mod EndsOnce
 pub mod ErrorTexts
+pub mod Killed

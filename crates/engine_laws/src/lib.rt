@@ -5,3 +5,4 @@
 
 pub mod ends_once;
 pub mod error_texts;
+pub mod killed;
