@@ -2,3 +2,4 @@ mod ToldEnds
 mod TextSizes
 mod StepTexts
 mod KilledLines
+mod Announcements

@@ -1,3 +1,4 @@
 pub mod EndsOnce
 pub mod ErrorTexts
 pub mod Killed
+pub mod Announced

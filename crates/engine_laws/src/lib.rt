@@ -3,6 +3,7 @@
 
 #![tactic(auto)]
 
+pub mod announced;
 pub mod ends_once;
 pub mod error_texts;
 pub mod killed;

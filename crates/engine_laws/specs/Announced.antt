@@ -1,0 +1,41 @@
+-- What registries hear of globals.
+use Rattle.std.specs.Prelude.{◌≡◌, ℕ, ◌+◌, cond, not, ◌&&◌, List, [], ◌∷◌, ◌++◌, length, take, Some, None, Ok, Option, nat_le}
+use Rattle.protocol.specs.Lawful.{Lawful}
+use Rattle.message.specs.Events.{EventModel}
+use Rattle.backend.specs.declared.ids.ClientId.{ClientId}
+use Rattle.backend.specs.declared.ids.ObjectId.{ObjectId}
+use Rattle.backend.specs.declared.client.Client.{Client}
+use Rattle.backend.specs.declared.registry.Global.{Global}
+use Rattle.backend.specs.declared.answers.StepAnswer.TheVariants.{Registered}
+use Rattle.backend.specs.Events.{global_event}
+use Rattle.backend.specs.Registries.{visible}
+use Rattle.backend.specs.Requests.{Buffers}
+use Rattle.backend.specs.Texts.{name_in}
+use Rattle.backend.specs.World.{Terms, World, client_at, is_live}
+use Rattle.backend.specs.Perform.{step, stepped, perform}
+
+-- the event that tells a registry of a global of this name
+abbrev pub announcement : Terms → ObjectId → ℕ → Global → EventModel
+announcement t registry name g = global_event registry.id name (name_in t.rows g.row) g.version
+
+-- The announcements to a registry of the client k: of each global that is there, enabled, and shown by the policy, by rising name. The
+-- first of the list has this name.
+abbrev pub announcements : Terms → ObjectId → Client → ℕ → List (Option Global) → List EventModel
+announcements t registry k name [] = []
+announcements t registry k name (None ∷ globals) = announcements t registry k (name + 1) globals
+announcements t registry k name (Some g ∷ globals) =
+    cond (not g.disabled && visible t registry.client k name g) (announcement t registry name g ∷ announcements t registry k (name + 1) globals)
+    (announcements t registry k (name + 1) globals)
+
+-- A list of events is told to the client c, who was there as k: its line takes as many of them as it has allowance for, in order, and
+-- nothing else, and the client stays live exactly where that is all of them.
+pub record Tells (c : ClientId) (before : World) (events : List EventModel) (after : World) : Type 0 where
+  pub line : (after.lines c.place).events ≡ (before.lines c.place).events ++ take (before.lines c.place).allowance events
+  pub live : (q : Client) → client_at after c ≡ Some q → is_live q.state ≡ nat_le (length events) (before.lines c.place).allowance
+
+-- A step that answers a new registry tells its client of the globals that are enabled and shown to it, each once, by rising name.
+abbrev pub NewRegistryHearsGlobals : Type 0
+NewRegistryHearsGlobals =
+    (t : Terms) → Lawful t.rows → (c : ClientId) (b : Buffers) (w : World) (x : ObjectId) → (perform t (step c b) w).answer ≡ stepped (Ok (Registered x))
+    → (k : Client) → client_at w c ≡ Some k
+    → (x.client ≡ c) × Tells c w (announcements t x k 1 w.engine.registry.globals.places) (perform t (step c b) w).run.world
