@@ -48,7 +48,7 @@ use Rattle.engine_laws.proofs.TextSizes.{row_name}
 -- One event.
 
 -- every announcement is one that a wire takes
-announcement_sendable : (t : Terms) → Lawful t.rows → (x : ObjectId) (name : ℕ) (g : Global) → sendable (announcement t x name g) ≡ true
+pub announcement_sendable : (t : Terms) → Lawful t.rows → (x : ObjectId) (name : ℕ) (g : Global) → sendable (announcement t x name g) ≡ true
 announcement_sendable t lawful x name g =
     let n = row_name t.rows lawful g.row in
     let small : 0 + (length (name_in t.rows g.row) + 0) ≤ 256 = omega (arith, n.short) in
@@ -56,12 +56,12 @@ announcement_sendable t lawful x name g =
 
 -- what an offer does where the line takes one more, and where it takes none
 module _ (e : EventModel) (s : Seat) (fits : sendable e ≡ true) where
-  record Taken (n : ℕ) : Type 0 where
-    client : (offer e s).client ≡ s.client
-    events : (offer e s).line.events ≡ s.line.events ++ e ∷ []
-    allowance : (offer e s).line.allowance ≡ n
+  pub record Taken (n : ℕ) : Type 0 where
+    pub client : (offer e s).client ≡ s.client
+    pub events : (offer e s).line.events ≡ s.line.events ++ e ∷ []
+    pub allowance : (offer e s).line.allowance ≡ n
 
-  offer_taken : (n : ℕ) → s.line.allowance ≡ suc n → Taken n
+  pub offer_taken : (n : ℕ) → s.line.allowance ≡ suc n → Taken n
   offer_taken n a =
       let some : eqb s.line.allowance 0 ≡ false = ne_eqb s.line.allowance 0 (λ q. omega (arith, a, q)) in
       let answer : write_answer e s.line ≡ Ok tt = cond-false (eqb s.line.allowance 0) _ _ some ∙ cond-true (sendable e) _ _ fits in
@@ -72,11 +72,11 @@ module _ (e : EventModel) (s : Seat) (fits : sendable e ≡ true) where
         allowance = ap (λ (l : Line). l.allowance) line ∙ omega (arith, a);
       }
 
-  record Lost : Type 0 where
-    dead : is_live (offer e s).client.state ≡ false
-    line : (offer e s).line ≡ s.line
+  pub record Lost : Type 0 where
+    pub dead : is_live (offer e s).client.state ≡ false
+    pub line : (offer e s).line ≡ s.line
 
-  offer_lost : s.line.allowance ≡ 0 → Lost
+  pub offer_lost : s.line.allowance ≡ 0 → Lost
   offer_lost a =
       let none : eqb s.line.allowance 0 ≡ true = ap (λ (i : ℕ). eqb i 0) a in
       let answer : write_answer e s.line ≡ Err Refused = cond-true (eqb s.line.allowance 0) _ _ none in
@@ -91,14 +91,14 @@ record Told (before : Seat) (events : List EventModel) (after : Seat) : Type 0 w
   line : after.line.events ≡ before.line.events ++ take before.line.allowance events
   live : is_live after.client.state ≡ leb (length events) before.line.allowance
 
+pub take_nothing : (n : ℕ) → take {A = EventModel} n [] ≡ []
+take_nothing zero = refl
+take_nothing (suc n) = refl
+
 told_none : (s : Seat) → is_live s.client.state ≡ true → Told s [] s
 told_none s l = record { line = sym (append-nil s.line.events) ∙ ap (λ (xs : List EventModel). s.line.events ++ xs) (sym (take_nothing s.line.allowance)); live = l ∙ sym (le-leb 0 s.line.allowance (omega arith)) }
-  where
-    take_nothing : (n : ℕ) → take {A = EventModel} n [] ≡ []
-    take_nothing zero = refl
-    take_nothing (suc n) = refl
 
-one_less : (m n : ℕ) → leb (suc m) (suc n) ≡ leb m n
+pub one_less : (m n : ℕ) → leb (suc m) (suc n) ≡ leb m n
 one_less m n =
     ⊎_elim (λ e. le-leb (suc m) (suc n) (let le = leb-true m n e in omega arith) ∙ sym e)
     (λ e. lt-leb (suc m) (suc n) (let lt = leb-false m n e in omega arith) ∙ sym e) (cases_Bool (leb m n))

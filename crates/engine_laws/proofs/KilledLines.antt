@@ -128,7 +128,7 @@ module _ (w : World) (c : ClientId) where
   relined r v e h = record { events = h.events; line = subst (λ (l : Line). GainsDeleteIds (w.lines c.place).events l.events) (sym e) h.line }
 
   -- two clients that are there have two places
-  apart : (v : World) (d : ClientId) (k q : Client) → client_at v d ≡ Some k → client_at v c ≡ Some q → c ≢ d → c.place ≢ d.place
+  pub apart : (v : World) (d : ClientId) (k q : Client) → client_at v d ≡ Some k → client_at v c ≡ Some q → c ≢ d → c.place ≢ d.place
   apart v d k q there here ne e =
       let a = named_is d (at v.engine.store.clients.places d.place) k there in
       let b = named_is c (at v.engine.store.clients.places c.place) q here in

@@ -3,3 +3,4 @@ mod TextSizes
 mod StepTexts
 mod KilledLines
 mod Announcements
+mod RollAnnouncements

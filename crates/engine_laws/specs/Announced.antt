@@ -1,18 +1,20 @@
 -- What registries hear of globals.
-use Rattle.std.specs.Prelude.{◌≡◌, ℕ, ◌+◌, cond, not, ◌&&◌, List, [], ◌∷◌, ◌++◌, length, take, Some, None, Ok, Option, nat_le}
+use Rattle.std.specs.Prelude.{◌≡◌, ℕ, ◌+◌, true, false, cond, not, ◌&&◌, List, [], ◌∷◌, ◌++◌, length, take, Some, None, Ok, Option, nat_le}
 use Rattle.protocol.specs.Lawful.{Lawful}
 use Rattle.message.specs.Events.{EventModel}
 use Rattle.backend.specs.declared.ids.ClientId.{ClientId}
 use Rattle.backend.specs.declared.ids.ObjectId.{ObjectId}
+use Rattle.backend.specs.declared.ids.GlobalId.{GlobalId}
 use Rattle.backend.specs.declared.client.Client.{Client}
 use Rattle.backend.specs.declared.registry.Global.{Global}
 use Rattle.backend.specs.declared.answers.StepAnswer.TheVariants.{Registered}
+use Rattle.backend.specs.Ids.{same_client}
 use Rattle.backend.specs.Events.{global_event}
 use Rattle.backend.specs.Registries.{visible}
 use Rattle.backend.specs.Requests.{Buffers}
 use Rattle.backend.specs.Texts.{name_in}
 use Rattle.backend.specs.World.{Terms, World, client_at, is_live}
-use Rattle.backend.specs.Perform.{step, stepped, perform}
+use Rattle.backend.specs.Perform.{step, stepped, add, added, perform}
 
 -- the event that tells a registry of a global of this name
 abbrev pub announcement : Terms → ObjectId → ℕ → Global → EventModel
@@ -39,3 +41,23 @@ NewRegistryHearsGlobals =
     (t : Terms) → Lawful t.rows → (c : ClientId) (b : Buffers) (w : World) (x : ObjectId) → (perform t (step c b) w).answer ≡ stepped (Ok (Registered x))
     → (k : Client) → client_at w c ≡ Some k
     → (x.client ≡ c) × Tells c w (announcements t x k 1 w.engine.registry.globals.places) (perform t (step c b) w).run.world
+
+-- The announcements of one global, of this row and version: one to each registry of the client that is on the roll, in the roll's order.
+abbrev pub along_announcements : Terms → ClientId → GlobalId → ℕ → ℕ → List (Option ObjectId) → List EventModel
+along_announcements t c i row version [] = []
+along_announcements t c i row version (None ∷ roll) = along_announcements t c i row version roll
+along_announcements t c i row version (Some x ∷ roll) =
+    cond (same_client c x.client) (global_event x.id i.name (name_in t.rows row) version ∷ along_announcements t c i row version roll)
+    (along_announcements t c i row version roll)
+
+-- what a client hears of a global that was added as i: a live client all of that where the policy shows it, and else nothing; a killed
+-- client nothing
+pub record HearsOfNew (t : Terms) (i : GlobalId) (row version handler : ℕ) (c : ClientId) (k : Client) (before after : World) : Type 0 where
+  pub live : is_live k.state ≡ true → Tells c before (cond (t.shows c k.«data» i handler) (along_announcements t c i row version before.engine.registry.roll) []) after
+  pub killed : is_live k.state ≡ false → after.lines c.place ≡ before.lines c.place
+
+-- Every client that is there hears of a global that is added exactly on its registries, and only where the policy shows it.
+abbrev pub NewGlobalIsAnnounced : Type 0
+NewGlobalIsAnnounced =
+    (t : Terms) → Lawful t.rows → (row version handler : ℕ) (w : World) (i : GlobalId) → (perform t (add row version handler) w).answer ≡ added (Ok i)
+    → (c : ClientId) (k : Client) → client_at w c ≡ Some k → HearsOfNew t i row version handler c k w (perform t (add row version handler) w).run.world

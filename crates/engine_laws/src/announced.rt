@@ -1,8 +1,13 @@
 //! Announcements.
 
-ghost use Rattle.engine_laws.specs.Announced.{NewRegistryHearsGlobals};
+ghost use Rattle.engine_laws.specs.Announced.{NewRegistryHearsGlobals, NewGlobalIsAnnounced};
 
 /// A new registry is told of the globals that are enabled and shown to its client, each once, by rising name.
 pub fn new_registry_hears_globals()
     ensures { NewRegistryHearsGlobals }
+{}
+
+/// A new global is announced to exactly the registries on the roll whose clients are not killed and are shown it.
+pub fn new_global_is_announced()
+    ensures { NewGlobalIsAnnounced }
 {}
