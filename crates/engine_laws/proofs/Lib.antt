@@ -4,3 +4,4 @@ mod StepTexts
 mod KilledLines
 mod Announcements
 mod RollAnnouncements
+mod RisingNames

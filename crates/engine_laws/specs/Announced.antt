@@ -1,5 +1,5 @@
 -- What registries hear of globals.
-use Rattle.std.specs.Prelude.{◌≡◌, ℕ, ◌+◌, true, false, cond, not, ◌&&◌, List, [], ◌∷◌, ◌++◌, length, take, Some, None, Ok, Option, nat_le}
+use Rattle.std.specs.Prelude.{◌≡◌, ℕ, ◌+◌, ◌<◌, ◌≤◌, true, false, cond, not, ◌&&◌, List, [], ◌∷◌, ◌++◌, length, take, Some, None, Ok, Option, nat_le}
 use Rattle.protocol.specs.Lawful.{Lawful}
 use Rattle.message.specs.Events.{EventModel}
 use Rattle.backend.specs.declared.ids.ClientId.{ClientId}
@@ -10,7 +10,7 @@ use Rattle.backend.specs.declared.registry.Global.{Global}
 use Rattle.backend.specs.declared.answers.StepAnswer.TheVariants.{Registered}
 use Rattle.backend.specs.Ids.{same_client}
 use Rattle.backend.specs.Events.{global_event}
-use Rattle.backend.specs.Registries.{visible}
+use Rattle.backend.specs.Registries.{global_named, visible}
 use Rattle.backend.specs.Requests.{Buffers}
 use Rattle.backend.specs.Texts.{name_in}
 use Rattle.backend.specs.World.{Terms, World, client_at, is_live}
@@ -28,6 +28,24 @@ announcements t registry k name (None ∷ globals) = announcements t registry k 
 announcements t registry k name (Some g ∷ globals) =
     cond (not g.disabled && visible t registry.client k name g) (announcement t registry name g ∷ announcements t registry k (name + 1) globals)
     (announcements t registry k (name + 1) globals)
+
+-- the global that stands under a name, where it is enabled and the policy shows it to a registry of the client k
+abbrev pub shown_of : Terms → ObjectId → Client → ℕ → Option Global → Option Global
+shown_of t registry k name None = None
+shown_of t registry k name (Some g) = cond (not g.disabled && visible t registry.client k name g) (Some g) None
+
+-- From a name on, the events announce each global that is shown, once, by rising name, and nothing else.
+pub data Announces (t : Terms) (registry : ObjectId) (k : Client) (globals : List (Option Global)) : ℕ → List EventModel → Type 0 where
+  no_more : {start : ℕ} → ((name : ℕ) → start ≤ name → shown_of t registry k name (global_named globals name) ≡ None) → Announces t registry k globals start []
+  goes_on : {start : ℕ} {events : List EventModel} (name : ℕ) (g : Global) → start ≤ name
+      → ((j : ℕ) → start ≤ j → j < name → shown_of t registry k j (global_named globals j) ≡ None)
+      → shown_of t registry k name (global_named globals name) ≡ Some g → Announces t registry k globals (name + 1) events
+      → Announces t registry k globals start (announcement t registry name g ∷ events)
+
+-- The announcements of a table of globals are of exactly those that are shown, by rising name.
+abbrev pub AnnouncementsGoByName : Type 0
+AnnouncementsGoByName =
+    (t : Terms) (registry : ObjectId) (k : Client) (globals : List (Option Global)) → Announces t registry k globals 1 (announcements t registry k 1 globals)
 
 -- A list of events is told to the client c, who was there as k: its line takes as many of them as it has allowance for, in order, and
 -- nothing else, and the client stays live exactly where that is all of them.

@@ -1,6 +1,11 @@
 //! Announcements.
 
-ghost use Rattle.engine_laws.specs.Announced.{NewRegistryHearsGlobals, NewGlobalIsAnnounced};
+ghost use Rattle.engine_laws.specs.Announced.{AnnouncementsGoByName, NewRegistryHearsGlobals, NewGlobalIsAnnounced};
+
+/// The announcements of a table of globals are of exactly those that are enabled and shown, each once, by rising name.
+pub fn announcements_go_by_name()
+    ensures { AnnouncementsGoByName }
+{}
 
 /// A new registry is told of the globals that are enabled and shown to its client, each once, by rising name.
 pub fn new_registry_hears_globals()
