@@ -75,7 +75,7 @@ record Hush (l : List EventModel) (s : Seat) : Type 0 where
   events : PutsOnlyDeleteIds s.acts
   line : GainsDeleteIds l s.line.events
 
-lost_dead : (r : Result (Unit {0}) WriteError) (k : Client) → is_live k.state ≡ false → is_live (lost r k).state ≡ false
+pub lost_dead : (r : Result (Unit {0}) WriteError) (k : Client) → is_live k.state ≡ false → is_live (lost r k).state ≡ false
 lost_dead (Ok u) k d = d
 lost_dead (Err e) k d = struck_dead _ k.state
 
@@ -136,7 +136,7 @@ module _ (w : World) (c : ClientId) where
       ne (same_id c d e (sym b.1 ∙ (ap (λ (x : Client). x.serial) s ∙ a.1)))
 
   -- the client that is there under both handles
-  one_client : (v : World) (d : ClientId) (k : Client) → client_at v d ≡ Some k → Killed v c → c ≡ d → is_live k.state ≡ false
+  pub one_client : (v : World) (d : ClientId) (k : Client) → client_at v d ≡ Some k → Killed v c → c ≡ d → is_live k.state ≡ false
   one_client v d k there (q, here, dead) e = subst (λ (x : Client). is_live x.state ≡ false) (some_is q k (sym here ∙ (ap (client_at v) e ∙ there))) dead
 
   resumed_hears : (r : Run) → Hears r → Killed r.world c → (d : ClientId) (k : Client) → client_at r.world d ≡ Some k
@@ -161,7 +161,7 @@ module _ (w : World) (c : ClientId) where
             (sym (cond-false (eqb c.place d.place) s.line (r.world.lines c.place) (ne_eqb c.place d.place (apart r.world d k dead.0 there dead.1 ne)))) h.line;
       }
 
-  killed_then : (r : Run) → Killed r.world c → (d : ClientId) (k : Client) → client_at r.world d ≡ Some k
+  pub killed_then : (r : Run) → Killed r.world c → (d : ClientId) (k : Client) → client_at r.world d ≡ Some k
       → (s : Seat) → s.client.serial ≡ k.serial → (is_live k.state ≡ false → is_live s.client.state ≡ false) → Killed (resumed d s r).world c
   killed_then r dead d k there s same keeps =
       ⊎_elim
@@ -178,7 +178,7 @@ module _ (w : World) (c : ClientId) where
     visit_hears x None r e dead h = h
     visit_hears x (Some k) r e dead h = resumed_hears r h dead x.client k e (f x (seat x.client k r)) (silent_hush x k r)
 
-    visit_killed : (x : ObjectId) (v : Option Client) (r : Run) → client_at r.world x.client ≡ v → Killed r.world c → Killed (visit x.client (f x) v r).world c
+    pub visit_killed : (x : ObjectId) (v : Option Client) (r : Run) → client_at r.world x.client ≡ v → Killed r.world c → Killed (visit x.client (f x) v r).world c
     visit_killed x None r e dead = dead
     visit_killed x (Some k) r e dead = killed_then r dead x.client k e (f x (seat x.client k r)) (same x (seat x.client k r)) (λ d. (silent_hush x k r d).dead)
 
@@ -211,7 +211,7 @@ announce_silent t x n g s d =
 
 -- The calls.
 
-living_owner : (w : World) (x : ObjectId) (o : Owned) → living w x ≡ Some o → HasOwner w x o
+pub living_owner : (w : World) (x : ObjectId) (o : Owned) → living w x ≡ Some o → HasOwner w x o
 living_owner w x o e = go (the_owned w x) refl e
   where
     go : (r : Result Owned Refusal) → the_owned w x ≡ r → living_of r ≡ Some o → HasOwner w x o
@@ -219,7 +219,7 @@ living_owner w x o e = go (the_owned w x) refl e
     go (Err q) f s = absurd (not_vacant None o s refl)
 
 -- the killed client that is found stands at its place
-found_there : (p : ℕ) (ks : List (Option Client)) (f : Found) → lowest_killed p ks ≡ Some f → (i : ℕ) × (f.place ≡ p + i) × (at ks i ≡ Some f.client)
+pub found_there : (p : ℕ) (ks : List (Option Client)) (f : Found) → lowest_killed p ks ≡ Some f → (i : ℕ) × (f.place ≡ p + i) × (at ks i ≡ Some f.client)
 found_there p [] f e = absurd (not_vacant None f e refl)
 found_there p (None ∷ ks) f e = let g = found_there (p + 1) ks f e in (suc g.0, omega (arith, g.1), g.2)
 found_there p (Some k ∷ ks) f e = go (λ q. found_there (p + 1) ks f q) (is_live k.state) e
@@ -232,7 +232,7 @@ found_there p (Some k ∷ ks) f e = go (λ q. found_there (p + 1) ks f q) (is_li
         let here : p ≡ f.place = ap (λ (x : Found). x.place) s in (0, omega (arith, here), ap (λ (x : Found). Some x.client) s)
 
 -- the handles that next finds are the client's own
-next_own : (d : ClientId) (k : Client) (i : ℕ) (y : ObjectId) → next_handle d k i ≡ Some y → y.client ≡ d
+pub next_own : (d : ClientId) (k : Client) (i : ℕ) (y : ObjectId) → next_handle d k i ≡ Some y → y.client ≡ d
 next_own d k i y e = at_id (next_after k.map i) e
   where
     of_object : (id : ℕ) (o : Option (Object ObjectData)) → handle_of d id o ≡ Some y → y.client ≡ d

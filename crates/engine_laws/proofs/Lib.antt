@@ -5,3 +5,4 @@ mod KilledLines
 mod Announcements
 mod RollAnnouncements
 mod RisingNames
+mod KilledStays

@@ -1,13 +1,17 @@
 -- What a killed client still hears: that numbers may be used again, and nothing else.
-use Rattle.std.specs.Prelude.{◌≡◌, ℕ, ◌<◌, ◌⊎◌, List, [], ◌∷◌, ◌++◌}
+use Rattle.std.specs.Prelude.{◌≡◌, ℕ, ◌<◌, ◌≤◌, false, ◌⊎◌, List, [], ◌∷◌, ◌++◌, length, Some}
 use Rattle.map.specs.Map.{limit}
+use Rattle.protocol.specs.Lawful.{Lawful}
 use Rattle.message.specs.Events.{EventModel}
 use Rattle.backend.specs.declared.ids.ClientId.{ClientId}
+use Rattle.backend.specs.declared.client.Client.{Client}
 use Rattle.backend.specs.Events.{delete_id}
-use Rattle.backend.specs.World.{Terms, World}
+use Rattle.backend.specs.World.{Terms, World, client_at, is_live}
 use Rattle.backend.specs.Acts.{Act, entered, ended, took, refused, received, flushed, opened}
 use Rattle.backend.specs.Perform.{Call, perform}
+use Rattle.accounts.specs.Histories.{History, Leads}
 use Rattle.accounts.specs.Accounts.{acts_of, Killed}
+use Rattle.accounts.specs.Whole.{most}
 
 -- the event is wl_display.delete_id, of a number of the client's half
 abbrev pub IsDeleteId : EventModel → Type 0
@@ -41,3 +45,9 @@ pub record HearsOnlyDeleteIds (t : Terms) (call : Call) (w : World) (c : ClientI
 -- of nothing else.
 abbrev pub KilledHearOnlyDeleteId : Type 0
 KilledHearOnlyDeleteId = (t : Terms) (call : Call) (w : World) (c : ClientId) → Killed w c → HearsOnlyDeleteIds t call w c
+
+-- In every history of up to 4,294,967,295 calls: a client that is killed stays killed for as long as it is there.
+abbrev pub KilledStayKilled : Type 0
+KilledStayKilled =
+    (t : Terms) → Lawful t.rows → (h : History) (w : World) → Leads t h w → length h ≤ most → (call : Call) (c : ClientId) → Killed w c → (k : Client)
+    → client_at (perform t call w).run.world c ≡ Some k → is_live k.state ≡ false
