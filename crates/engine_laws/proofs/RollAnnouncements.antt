@@ -1,6 +1,6 @@
--- What the clients on the roll are told of a new global.
+-- What the clients on the roll are told of a global that is added, and of one that goes.
 use Rattle.std.proofs.Common.{◌≡◌, ℕ, zero, suc, ◌+◌, true, false, eqb, leb, ◌≢◌, List, [], ◌∷◌, ◌++◌, length, take, Some, None, Ok, Err, Option, Result, sym, refl, ap, ◌∙◌, subst, ⊎_elim, append_assoc, arith}
-use Rattle.std.proofs.lemmas.Bool.{cond-true, cond-false, cases_Bool, eq-eqb, ne_eqb, le-leb, lt-leb}
+use Rattle.std.proofs.lemmas.Bool.{cond_both, cond-true, cond-false, cases_Bool, eq-eqb, ne_eqb, le-leb, lt-leb}
 use Rattle.std.proofs.lemmas.List.{append-nil}
 use Rattle.protocol.specs.Lawful.{Lawful}
 use Rattle.protocol.specs.declared.refusal.Refusal.{Refusal}
@@ -12,21 +12,23 @@ use Rattle.backend.specs.declared.ids.GlobalId.{GlobalId}
 use Rattle.backend.specs.declared.client.Client.{Client}
 use Rattle.backend.specs.declared.registry.Global.{Global}
 use Rattle.backend.specs.Acts.{Seat, Run, from, seat, offer}
-use Rattle.backend.specs.Calls.{add_check, add_act, new_global, add_world}
+use Rattle.backend.specs.Checks.{present, the_global}
+use Rattle.backend.specs.Events.{global_remove}
+use Rattle.protocol.specs.declared.refusal.Refusal.TheVariants.{NoGlobal}
+use Rattle.backend.specs.Calls.{disabled_global, global_put, disable_run, disable_act, remove_act, add_check, add_act, new_global, add_world}
 use Rattle.backend.specs.Ids.{same_client}
-use Rattle.backend.specs.Registries.{global_id, visible, announce, visit, along_roll}
+use Rattle.backend.specs.Registries.{global_id, global_at, retract, visible, announce, visit, along_roll}
 use Rattle.backend.specs.World.{Terms, World, client_at, is_live}
-use Rattle.backend.specs.Perform.{added, checked}
+use Rattle.backend.specs.Perform.{disable, remove, added, disabled, removed, checked, perform}
 use Rattle.accounts.proofs.Books.{some_is}
 use Rattle.accounts.proofs.Kept.{cases_client, same_client_self, other_client, client_same, client_other}
-use Rattle.engine_laws.specs.Announced.{announcement, Tells, along_announcements, HearsOfNew, NewGlobalIsAnnounced}
-use Rattle.engine_laws.proofs.KilledLines.{apart, announce_same, announce_silent}
+use Rattle.engine_laws.specs.Announced.{announcement, Tells, to_registries, HearsOfNew, NewGlobalIsAnnounced, HearsOfGone, GoneGlobalIsRetracted}
+use Rattle.engine_laws.proofs.KilledLines.{apart, tell_same, tell_silent, announce_same, announce_silent}
 use Rattle.engine_laws.proofs.Announcements.{announcement_sendable, offer_taken, offer_lost, one_less, take_nothing}
 
-module _ (t : Terms) (lawful : Lawful t.rows) (name : ℕ) (g : Global) (c : ClientId) where
-  abbrev f : ObjectId → Seat → Seat
-  f x s = announce t x name g s
-
+-- something is told along the roll, of which killed clients hear nothing
+module _ (f : ObjectId → Seat → Seat) (same : (x : ObjectId) (s : Seat) → (f x s).client.serial ≡ s.client.serial) (dead_same : (x : ObjectId) (s : Seat) → is_live s.client.state ≡ false → f x s ≡ s)
+    (event : ObjectId → EventModel) (fits : (x : ObjectId) → sendable (event x) ≡ true) (c : ClientId) where
   abbrev after : ObjectId → Run → Run
   after x r = visit x.client (f x) (client_at r.world x.client) r
 
@@ -42,7 +44,7 @@ module _ (t : Terms) (lawful : Lawful t.rows) (name : ℕ) (g : Global) (c : Cli
       go : (v : Option Client) → client_at r.world x.client ≡ v → Stands k (r.world.lines c.place) (visit x.client (f x) v r).world
       go None e = record { client = here; line = refl }
       go (Some q) e = record {
-        client = client_other r.world x.client q e (f x (seat x.client q r)).client (announce_same t x name g (seat x.client q r)) c ne ∙ here;
+        client = client_other r.world x.client q e (f x (seat x.client q r)).client (same x (seat x.client q r)) c ne ∙ here;
         line = cond-false (eqb c.place x.client.place) _ (r.world.lines c.place) (ne_eqb c.place x.client.place (apart r.world c r.world x.client q k e here ne));
       }
 
@@ -52,7 +54,7 @@ module _ (t : Terms) (lawful : Lawful t.rows) (name : ℕ) (g : Global) (c : Cli
   own_stands x e k r here =
       subst (λ (v : Option Client). Stands (f x (seat c k r)).client (f x (seat c k r)).line (visit x.client (f x) v r).world) (sym here ∙ ap (client_at r.world) e)
       (subst (λ (d : ClientId). Stands (f x (seat c k r)).client (f x (seat c k r)).line (visit d (f x) (Some k) r).world) e (record {
-        client = client_same r.world c k here (f x (seat c k r)).client (announce_same t x name g (seat c k r));
+        client = client_same r.world c k here (f x (seat c k r)).client (same x (seat c k r));
         line = cond-true (eqb c.place c.place) _ (r.world.lines c.place) (eq-eqb c.place c.place refl);
       }))
 
@@ -75,14 +77,7 @@ module _ (t : Terms) (lawful : Lawful t.rows) (name : ℕ) (g : Global) (c : Cli
 
   -- a client that is killed
   killed_unmoved : (k : Client) → is_live k.state ≡ false → (xs : List (Option ObjectId)) (r : Run) → client_at r.world c ≡ Some k → Stands k (r.world.lines c.place) (along_roll f xs r).world
-  killed_unmoved k d = unmoved k (λ x s e q. announce_silent t x name g s (ap (λ (y : Client). is_live y.state) q ∙ d))
-
-  -- a client that the policy does not show it
-  unseen_unmoved : (k : Client) → visible t c k name g ≡ false → (xs : List (Option ObjectId)) (r : Run) → client_at r.world c ≡ Some k → Stands k (r.world.lines c.place) (along_roll f xs r).world
-  unseen_unmoved k u =
-      unmoved k
-      (λ x s e q. cond-false (visible t x.client s.client name g) _ s
-      (ap (λ (y : Client). visible t x.client y name g) q ∙ (ap (λ (d : ClientId). visible t d k name g) (sym e) ∙ u)))
+  killed_unmoved k d = unmoved k (λ x s e q. dead_same x s (ap (λ (y : Client). is_live y.state) q ∙ d))
 
   -- a client that hears nothing
   tells_nothing : (k : Client) → is_live k.state ≡ true → (before then : World) → Stands k (before.lines c.place) then → Tells c before [] then
@@ -99,42 +94,34 @@ module _ (t : Terms) (lawful : Lawful t.rows) (name : ℕ) (g : Global) (c : Cli
   }
 
   abbrev events : List (Option ObjectId) → List EventModel
-  events xs = along_announcements t c (global_id name g) g.row g.version xs
+  events xs = to_registries c event xs
 
-  -- a live client that the policy shows it
-  module _ (k : Client) (l : is_live k.state ≡ true) (shown : visible t c k name g ≡ true) where
-    seen : (x : ObjectId) (s : Seat) → c ≡ x.client → s.client ≡ k → f x s ≡ offer (announcement t x name g) s
-    seen x s e q =
-        cond-true (visible t x.client s.client name g) _ s (ap (λ (y : Client). visible t x.client y name g) q ∙ (ap (λ (d : ClientId). visible t d k name g) (sym e) ∙ shown))
-        ∙ cond-true (is_live s.client.state) _ s (ap (λ (y : Client). is_live y.state) q ∙ l)
-
+  -- a live client at whose seat the event is offered
+  module _ (k : Client) (l : is_live k.state ≡ true) (seen : (x : ObjectId) (s : Seat) → c ≡ x.client → s.client ≡ k → f x s ≡ offer (event x) s) where
     told_on : (x : ObjectId) (xs : List (Option ObjectId)) (r : Run) → c ≡ x.client → client_at r.world c ≡ Some k
         → ((q : Run) → client_at q.world c ≡ Some k → Tells c q.world (events xs) (along_roll f xs q).world)
-        → Tells c r.world (announcement t x name g ∷ events xs) (along_roll f xs (after x r)).world
+        → Tells c r.world (event x ∷ events xs) (along_roll f xs (after x r)).world
     told_on x xs r e here rest = go (r.world.lines c.place).allowance refl
       where
         a : EventModel
-        a = announcement t x name g
+        a = event x
 
         s : Seat
         s = seat c k r
-
-        fits : sendable a ≡ true
-        fits = announcement_sendable t lawful x name g
 
         stands : Stands (offer a s).client (offer a s).line (after x r).world
         stands = subst (λ (q : Seat). Stands q.client q.line (after x r).world) (seen x s e refl) (own_stands x e k r here)
 
         go : (n : ℕ) → (r.world.lines c.place).allowance ≡ n → Tells c r.world (a ∷ events xs) (along_roll f xs (after x r)).world
         go zero z =
-            let o = offer_lost a s fits z in
+            let o = offer_lost a s (fits x) z in
             let u = killed_unmoved (offer a s).client o.dead xs (after x r) stands.client in
             record {
               line = ap (λ (y : Line). y.events) (u.line ∙ (stands.line ∙ o.line)) ∙ (sym (append-nil s.line.events) ∙ ap (λ (n : ℕ). s.line.events ++ take n (a ∷ events xs)) (sym z));
               live = λ q f. ap (λ (y : Client). is_live y.state) (some_is q (offer a s).client (sym f ∙ u.client)) ∙ (o.dead ∙ sym (lt-leb (suc (length (events xs))) s.line.allowance (omega (arith, z))));
             }
         go (suc n) z =
-            let o = offer_taken a s fits n z in
+            let o = offer_taken a s (fits x) n z in
             let then = rest (after x r) (stands.client ∙ ap (λ (y : Client). Some y) o.client) in
             let more : ((after x r).world.lines c.place).events ≡ s.line.events ++ a ∷ [] = ap (λ (y : Line). y.events) stands.line ∙ o.events in
             let left : ((after x r).world.lines c.place).allowance ≡ n = ap (λ (y : Line). y.allowance) stands.line ∙ o.allowance in
@@ -151,28 +138,48 @@ module _ (t : Terms) (lawful : Lawful t.rows) (name : ℕ) (g : Global) (c : Cli
     told (Some x ∷ xs) r here =
         ⊎_elim
         (λ e. subst (λ (es : List EventModel). Tells c r.world es (along_roll f xs (after x r)).world)
-        (sym (cond-true (same_client c x.client) (announcement t x name g ∷ events xs) (events xs) (subst (λ (d : ClientId). same_client c d ≡ true) e (same_client_self c))))
+        (sym (cond-true (same_client c x.client) (event x ∷ events xs) (events xs) (subst (λ (d : ClientId). same_client c d ≡ true) e (same_client_self c))))
         (told_on x xs r e here (λ q h. told xs q h)))
         (λ ne. subst (λ (es : List EventModel). Tells c r.world es (along_roll f xs (after x r)).world)
-        (sym (cond-false (same_client c x.client) (announcement t x name g ∷ events xs) (events xs) (other_client c x.client ne)))
+        (sym (cond-false (same_client c x.client) (event x ∷ events xs) (events xs) (other_client c x.client ne)))
         (let s = other_stands x ne k r here in same_before r.world (after x r).world (events xs) (along_roll f xs (after x r)).world s.line (told xs (after x r) s.client)))
         (cases_client c x.client)
+
+-- A global that is added.
+
+module _ (t : Terms) (name : ℕ) (g : Global) (c : ClientId) (k : Client) where
+  -- its announcement is offered where the policy shows it
+  shown_offered : is_live k.state ≡ true → visible t c k name g ≡ true → (x : ObjectId) (s : Seat) → c ≡ x.client → s.client ≡ k → announce t x name g s ≡ offer (announcement t x name g) s
+  shown_offered l shown x s e q =
+      cond-true (visible t x.client s.client name g) _ s (ap (λ (y : Client). visible t x.client y name g) q ∙ (ap (λ (d : ClientId). visible t d k name g) (sym e) ∙ shown))
+      ∙ cond-true (is_live s.client.state) _ s (ap (λ (y : Client). is_live y.state) q ∙ l)
+
+  -- and else nothing is done
+  unseen_silent : visible t c k name g ≡ false → (x : ObjectId) (s : Seat) → c ≡ x.client → s.client ≡ k → announce t x name g s ≡ s
+  unseen_silent u x s e q =
+      cond-false (visible t x.client s.client name g) _ s (ap (λ (y : Client). visible t x.client y name g) q ∙ (ap (λ (d : ClientId). visible t d k name g) (sym e) ∙ u))
 
 module _ (t : Terms) (lawful : Lawful t.rows) (row version handler : ℕ) (w : World) (c : ClientId) (k : Client) (there : client_at w c ≡ Some k) where
   hears : (p : ℕ) → HearsOfNew t (global_id (p + 1) (new_global row version handler w)) row version handler c k w (add_act t row version handler w p).run.world
   hears p =
       let g = new_global row version handler w in
+      let f = λ (x : ObjectId) (s : Seat). announce t x (p + 1) g s in
+      let same = λ (x : ObjectId) (s : Seat). announce_same t x (p + 1) g s in
+      let silent = λ (x : ObjectId) (s : Seat) (d : is_live s.client.state ≡ false). announce_silent t x (p + 1) g s d in
+      let event = λ (x : ObjectId). announcement t x (p + 1) g in
+      let fits = λ (x : ObjectId). announcement_sendable t lawful x (p + 1) g in
       let v = visible t c k (p + 1) g in
       let roll = w.engine.registry.roll in
       let run = from (add_world p g w) in
+      let then = (add_act t row version handler w p).run.world in
       record {
         live = λ l. ⊎_elim
-            (λ s. subst (λ (es : List EventModel). Tells c w es (add_act t row version handler w p).run.world) (sym (cond-true v _ [] s))
-            (same_before t lawful (p + 1) g c w (add_world p g w) _ (add_act t row version handler w p).run.world refl (told t lawful (p + 1) g c k l s roll run there)))
-            (λ u. subst (λ (es : List EventModel). Tells c w es (add_act t row version handler w p).run.world) (sym (cond-false v _ [] u))
-            (let s = unseen_unmoved t lawful (p + 1) g c k u roll run there in tells_nothing t lawful (p + 1) g c k l w (add_act t row version handler w p).run.world (record { client = s.client; line = s.line })))
+            (λ s. subst (λ (es : List EventModel). Tells c w es then) (sym (cond-true v _ [] s))
+            (same_before f same silent event fits c w (add_world p g w) _ then refl (told f same silent event fits c k l (shown_offered t (p + 1) g c k l s) roll run there)))
+            (λ u. subst (λ (es : List EventModel). Tells c w es then) (sym (cond-false v _ [] u))
+            (let s = unmoved f same silent event fits c k (unseen_silent t (p + 1) g c k u) roll run there in tells_nothing f same silent event fits c k l w then (record { client = s.client; line = s.line })))
             (cases_Bool v);
-        killed = λ d. (killed_unmoved t lawful (p + 1) g c k d roll run there).line;
+        killed = λ d. (killed_unmoved f same silent event fits c k d roll run there).line;
       }
 
   by_check : (r : Result ℕ Refusal) (i : GlobalId) → (checked added r w (add_act t row version handler w)).answer ≡ added (Ok i)
@@ -184,3 +191,41 @@ module _ (t : Terms) (lawful : Lawful t.rows) (row version handler : ℕ) (w : W
 
 pub new_global_is_announced : NewGlobalIsAnnounced
 new_global_is_announced t lawful row version handler w i a c k there = by_check t lawful row version handler w c k there (add_check t row version w) i a
+
+-- A global that goes.
+
+module _ (t : Terms) (w : World) (i : GlobalId) (g : Global) (named : global_at w.engine.registry.globals.places i ≡ Some g) (c : ClientId) (k : Client) (there : client_at w c ≡ Some k) where
+  retracted : HearsOfGone i g c k w (disable_run i w g).world
+  retracted =
+      let f = retract i.name in
+      let same = λ (x : ObjectId) (s : Seat). tell_same (global_remove x.id i.name) s in
+      let silent = λ (x : ObjectId) (s : Seat) (d : is_live s.client.state ≡ false). tell_silent (global_remove x.id i.name) s d in
+      let event = λ (x : ObjectId). global_remove x.id i.name in
+      let fits = λ (x : ObjectId). fits_always x in
+      let roll = w.engine.registry.roll in
+      let v = global_put i.name (Some (disabled_global g)) w in
+      record {
+        live = λ d l. subst (λ (r : Run). Tells c w (to_registries c event roll) r.world) (sym (cond-false g.disabled (from w) (along_roll f roll (from v)) d))
+            (same_before f same silent event fits c w v _ (along_roll f roll (from v)).world refl
+            (told f same silent event fits c k l (λ x s e q. cond-true (is_live s.client.state) _ s (ap (λ (y : Client). is_live y.state) q ∙ l)) roll (from v) there));
+        killed = λ d. cond_both g.disabled (from w) (along_roll f roll (from v)) (λ (r : Run). r.world.lines c.place ≡ w.lines c.place) (λ _. refl)
+            (λ _. (killed_unmoved f same silent event fits c k d roll (from v) there).line);
+        again = λ d. ap (λ (r : Run). r.world.lines c.place) (cond-true g.disabled (from w) (along_roll f roll (from v)) d);
+      }
+    where
+      fits_always : (x : ObjectId) → sendable (global_remove x.id i.name) ≡ true
+      fits_always x = refl
+
+  found : the_global w i ≡ Ok g
+  found = ap (λ (v : Option Global). present v NoGlobal) named
+
+  disables : HearsOfGone i g c k w (perform t (disable i) w).run.world
+  disables = subst (λ (r : Result Global Refusal). HearsOfGone i g c k w (checked disabled r w (disable_act i w)).run.world) (sym found) retracted
+
+  removes : HearsOfGone i g c k w (perform t (remove i) w).run.world
+  removes =
+      subst (λ (r : Result Global Refusal). HearsOfGone i g c k w (checked removed r w (remove_act i w)).run.world) (sym found)
+      (record { live = λ d l. let s = retracted.live d l in record { line = s.line; live = s.live }; killed = retracted.killed; again = retracted.again })
+
+pub gone_global_is_retracted : GoneGlobalIsRetracted
+gone_global_is_retracted = record { disables = disables; removes = removes }

@@ -9,12 +9,12 @@ use Rattle.backend.specs.declared.client.Client.{Client}
 use Rattle.backend.specs.declared.registry.Global.{Global}
 use Rattle.backend.specs.declared.answers.StepAnswer.TheVariants.{Registered}
 use Rattle.backend.specs.Ids.{same_client}
-use Rattle.backend.specs.Events.{global_event}
-use Rattle.backend.specs.Registries.{global_named, visible}
+use Rattle.backend.specs.Events.{global_event, global_remove}
+use Rattle.backend.specs.Registries.{global_named, global_at, visible}
 use Rattle.backend.specs.Requests.{Buffers}
 use Rattle.backend.specs.Texts.{name_in}
 use Rattle.backend.specs.World.{Terms, World, client_at, is_live}
-use Rattle.backend.specs.Perform.{step, stepped, add, added, perform}
+use Rattle.backend.specs.Perform.{step, stepped, add, added, disable, remove, perform}
 
 -- the event that tells a registry of a global of this name
 abbrev pub announcement : Terms → ObjectId → ℕ → Global → EventModel
@@ -47,8 +47,8 @@ abbrev pub AnnouncementsGoByName : Type 0
 AnnouncementsGoByName =
     (t : Terms) (registry : ObjectId) (k : Client) (globals : List (Option Global)) → Announces t registry k globals 1 (announcements t registry k 1 globals)
 
--- A list of events is told to the client c, who was there as k: its line takes as many of them as it has allowance for, in order, and
--- nothing else, and the client stays live exactly where that is all of them.
+-- A list of events is told to the client c: its line takes as many of them as it has allowance for, in order, and nothing else, and the
+-- client stays live exactly where that is all of them.
 pub record Tells (c : ClientId) (before : World) (events : List EventModel) (after : World) : Type 0 where
   pub line : (after.lines c.place).events ≡ (before.lines c.place).events ++ take (before.lines c.place).allowance events
   pub live : (q : Client) → client_at after c ≡ Some q → is_live q.state ≡ nat_le (length events) (before.lines c.place).allowance
@@ -60,18 +60,17 @@ NewRegistryHearsGlobals =
     → (k : Client) → client_at w c ≡ Some k
     → (x.client ≡ c) × Tells c w (announcements t x k 1 w.engine.registry.globals.places) (perform t (step c b) w).run.world
 
--- The announcements of one global, of this row and version: one to each registry of the client that is on the roll, in the roll's order.
-abbrev pub along_announcements : Terms → ClientId → GlobalId → ℕ → ℕ → List (Option ObjectId) → List EventModel
-along_announcements t c i row version [] = []
-along_announcements t c i row version (None ∷ roll) = along_announcements t c i row version roll
-along_announcements t c i row version (Some x ∷ roll) =
-    cond (same_client c x.client) (global_event x.id i.name (name_in t.rows row) version ∷ along_announcements t c i row version roll)
-    (along_announcements t c i row version roll)
+-- one event to each registry of the client that is on the roll, in the roll's order
+abbrev pub to_registries : ClientId → (ObjectId → EventModel) → List (Option ObjectId) → List EventModel
+to_registries c event [] = []
+to_registries c event (None ∷ roll) = to_registries c event roll
+to_registries c event (Some x ∷ roll) = cond (same_client c x.client) (event x ∷ to_registries c event roll) (to_registries c event roll)
 
--- what a client hears of a global that was added as i: a live client all of that where the policy shows it, and else nothing; a killed
--- client nothing
+-- what a client hears of a global that was added as i: where it is live and the policy shows it, wl_registry.global on each of its
+-- registries, and else nothing
 pub record HearsOfNew (t : Terms) (i : GlobalId) (row version handler : ℕ) (c : ClientId) (k : Client) (before after : World) : Type 0 where
-  pub live : is_live k.state ≡ true → Tells c before (cond (t.shows c k.«data» i handler) (along_announcements t c i row version before.engine.registry.roll) []) after
+  pub live : is_live k.state ≡ true
+      → Tells c before (cond (t.shows c k.«data» i handler) (to_registries c (λ x. global_event x.id i.name (name_in t.rows row) version) before.engine.registry.roll) []) after
   pub killed : is_live k.state ≡ false → after.lines c.place ≡ before.lines c.place
 
 -- Every client that is there hears of a global that is added exactly on its registries, and only where the policy shows it.
@@ -79,3 +78,18 @@ abbrev pub NewGlobalIsAnnounced : Type 0
 NewGlobalIsAnnounced =
     (t : Terms) → Lawful t.rows → (row version handler : ℕ) (w : World) (i : GlobalId) → (perform t (add row version handler) w).answer ≡ added (Ok i)
     → (c : ClientId) (k : Client) → client_at w c ≡ Some k → HearsOfNew t i row version handler c k w (perform t (add row version handler) w).run.world
+
+-- what a client hears of a global that goes: where it is live, and the global was enabled, wl_registry.global_remove on each of its
+-- registries, whether or not the policy ever showed it, and else nothing
+pub record HearsOfGone (i : GlobalId) (g : Global) (c : ClientId) (k : Client) (before after : World) : Type 0 where
+  pub live : g.disabled ≡ false → is_live k.state ≡ true → Tells c before (to_registries c (λ x. global_remove x.id i.name) before.engine.registry.roll) after
+  pub killed : is_live k.state ≡ false → after.lines c.place ≡ before.lines c.place
+  pub again : g.disabled ≡ true → after.lines c.place ≡ before.lines c.place
+
+-- Every client that is there hears exactly on its registries that a global is gone, once: when it is disabled, or else when it is
+-- removed.
+pub record GoneGlobalIsRetracted : Type 0 where
+  pub disables : (t : Terms) (w : World) (i : GlobalId) (g : Global) → global_at w.engine.registry.globals.places i ≡ Some g → (c : ClientId) (k : Client) → client_at w c ≡ Some k
+      → HearsOfGone i g c k w (perform t (disable i) w).run.world
+  pub removes : (t : Terms) (w : World) (i : GlobalId) (g : Global) → global_at w.engine.registry.globals.places i ≡ Some g → (c : ClientId) (k : Client) → client_at w c ≡ Some k
+      → HearsOfGone i g c k w (perform t (remove i) w).run.world

@@ -1,6 +1,6 @@
 //! Announcements.
 
-ghost use Rattle.engine_laws.specs.Announced.{AnnouncementsGoByName, NewRegistryHearsGlobals, NewGlobalIsAnnounced};
+ghost use Rattle.engine_laws.specs.Announced.{AnnouncementsGoByName, NewRegistryHearsGlobals, NewGlobalIsAnnounced, GoneGlobalIsRetracted};
 
 /// The announcements of a table of globals are of exactly those that are enabled and shown, each once, by rising name.
 pub fn announcements_go_by_name()
@@ -15,4 +15,9 @@ pub fn new_registry_hears_globals()
 /// A new global is announced to exactly the registries on the roll whose clients are not killed and are shown it.
 pub fn new_global_is_announced()
     ensures { NewGlobalIsAnnounced }
+{}
+
+/// Exactly the registries on the roll whose clients are not killed hear, once, that a global is gone.
+pub fn gone_global_is_retracted()
+    ensures { GoneGlobalIsRetracted }
 {}
