@@ -12,3 +12,11 @@ mod StepLemmas
 mod TicketLemmas
 mod TouchedLemmas
 mod WalkLemmas
+mod ToldEnds
+mod TextSizes
+mod StepTexts
+mod KilledLines
+mod Announcements
+mod RollAnnouncements
+mod RisingNames
+mod KilledStays

@@ -7,3 +7,7 @@ pub mod cases;
 pub mod refused;
 pub mod steps;
 pub mod touched;
+pub mod announced;
+pub mod ends_once;
+pub mod error_texts;
+pub mod killed;
