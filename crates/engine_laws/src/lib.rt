@@ -3,11 +3,11 @@
 
 #![tactic(auto)]
 
-pub mod cases;
-pub mod refused;
-pub mod steps;
-pub mod touched;
 pub mod announced;
+pub mod cases;
 pub mod ends_once;
 pub mod error_texts;
 pub mod killed;
+pub mod refused;
+pub mod steps;
+pub mod touched;
