@@ -20,6 +20,7 @@ use Rattle.accounts.specs.Shown.{Ticket, ticket_of, child_of, Paper, handed, set
 
 -- Lists of handles.
 
+-- the handle is one of the list
 abbrev pub Has : ObjectId → List ObjectId → Type 0
 Has x [] = ⊥
 Has x (y ∷ ys) = (x ≡ y) ⊎ Has x ys
@@ -48,6 +49,7 @@ pub data Walk (t : Terms) (w : World) (c : ClientId) : ℕ → List ObjectId →
 
 -- What was done to one client, the latest first.
 
+-- what was done to the client, among all that was done
 abbrev pub acts_of : ClientId → List Deed → List Act
 acts_of c [] = []
 acts_of c (d ∷ ds) = cond (same_client c d.client) (d.act ∷ acts_of c ds) (acts_of c ds)
@@ -65,6 +67,7 @@ Unrefused (opened ∷ as') = Unrefused as'
 
 -- the objects entered, and the ends told
 
+-- the objects entered, among what was done to a client
 abbrev pub entries_in : List Act → List ObjectId
 entries_in [] = []
 entries_in (entered x ∷ as') = x ∷ entries_in as'
@@ -75,6 +78,7 @@ entries_in (received ∷ as') = entries_in as'
 entries_in (flushed ∷ as') = entries_in as'
 entries_in (opened ∷ as') = entries_in as'
 
+-- the ends told, among what was done to a client
 abbrev pub ends_in : List Act → List End
 ends_in [] = []
 ends_in (entered x ∷ as') = ends_in as'
@@ -87,10 +91,12 @@ ends_in (opened ∷ as') = ends_in as'
 
 -- Entries of a number, and its delete_id events.
 
+-- a number comes into use, or is said to be free again
 pub data Side : Type 0 where
   entry : Side
   delete : Side
 
+-- the one argument of an event, where it is one unsigned number
 abbrev pub only_uint : List (Argument ℕ (List ℕ)) → Option ℕ
 only_uint [] = None
 only_uint (a ∷ []) = as_uint a
@@ -100,10 +106,12 @@ only_uint (a ∷ b ∷ more) = None
 abbrev pub deletes : EventModel → Option ℕ
 deletes e = cond (e.sender == 1 && e.opcode == 1) (only_uint e.arguments) None
 
+-- a number said to be free again, if it is this one
 abbrev pub delete_side : ℕ → Option ℕ → List Side → List Side
 delete_side i None s = s
 delete_side i (Some j) s = cond (j == i) (delete ∷ s) s
 
+-- the entries of a number and its delete_id events, the latest first
 abbrev pub sides : ℕ → List Act → List Side
 sides i [] = []
 sides i (entered x ∷ as') = cond (x.id == i) (entry ∷ sides i as') (sides i as')
@@ -140,16 +148,19 @@ pub data Paired : List Paper → Option Ticket → Type 0 where
   goes_out : {ps : List Paper} (t : Ticket) → Paired ps None → Paired (handed t ∷ ps) (Some t)
   comes_back : {ps : List Paper} (t : Ticket) → Paired ps (Some t) → Paired (settled t ∷ ps) None
 
+-- how many tickets were handed out
 abbrev pub handed_out : List Paper → ℕ
 handed_out [] = 0
 handed_out (handed t ∷ ps) = 1 + handed_out ps
 handed_out (settled t ∷ ps) = handed_out ps
 
+-- how many were settled
 abbrev pub taken_back : List Paper → ℕ
 taken_back [] = 0
 taken_back (handed t ∷ ps) = taken_back ps
 taken_back (settled t ∷ ps) = 1 + taken_back ps
 
+-- how many are outstanding: one or none
 abbrev pub out_now : Option Ticket → ℕ
 out_now None = 0
 out_now (Some t) = 1
@@ -158,6 +169,7 @@ out_now (Some t) = 1
 abbrev pub Killed : World → ClientId → Type 0
 Killed w c = (k : Client) × (client_at w c ≡ Some k) × (is_live k.state ≡ false)
 
+-- the account of tickets
 pub record Tickets (t : Terms) (h : History) (w : World) : Type 0 where
   pub paired : Paired (papers h) (ticket_of w.engine.outstanding)
   pub counted : handed_out (papers h) ≡ taken_back (papers h) + out_now (ticket_of w.engine.outstanding)

@@ -60,12 +60,14 @@ abbrev pub of_ok : {A E X : Type 0} → (A → List X) → Result A E → List X
 of_ok f (Ok a) = f a
 of_ok f (Err e) = []
 
+-- what is there, as a list
 abbrev pub one : {X : Type 0} → Option X → List X
 one None = []
 one (Some x) = x ∷ []
 
 -- Entries: the display of an admission, a created object, and each new id that a step entered, also where a later argument failed.
 
+-- what a step's answer shows as entered
 abbrev pub step_entries : StepAnswer → List ObjectId
 step_entries Idle = []
 step_entries Closed = []
@@ -75,6 +77,7 @@ step_entries (Plain t) = []
 step_entries (Making t) = t.request.child ∷ []
 step_entries (Failed e) = one e.entered
 
+-- what an answer shows as entered
 abbrev pub entries_shown : Answer → List ObjectId
 entries_shown (admitted r) = of_ok (λ c. display_id c ∷ []) r
 entries_shown (stepped r) = of_ok step_entries r
@@ -97,6 +100,7 @@ entries_shown (tidied a) = []
 
 -- Ends: of a sync's callback, of a destructor's sender, of an object that was destroyed or tidied away.
 
+-- the ends that a step's answer tells
 abbrev pub step_ends : StepAnswer → List End
 step_ends Idle = []
 step_ends Closed = []
@@ -106,17 +110,20 @@ step_ends (Plain t) = []
 step_ends (Making t) = []
 step_ends (Failed e) = []
 
+-- the ends that the answer of a send tells
 abbrev pub send_ends : SendAnswer → List End
 send_ends (Sent e) = one e
 send_ends (Lost e) = one e
 send_ends NotSent = []
 
+-- the ends that the answer of a tidy tells
 abbrev pub tidy_ends : TidyAnswer → List End
 tidy_ends (Reason r) = []
 tidy_ends (Ended e) = e ∷ []
 tidy_ends (Vacated c) = []
 tidy_ends Nothing = []
 
+-- the ends that an answer tells
 abbrev pub ends_shown : Answer → List End
 ends_shown (admitted r) = []
 ends_shown (stepped r) = of_ok step_ends r
@@ -139,6 +146,7 @@ ends_shown (tidied a) = tidy_ends a
 
 -- Tickets: handed out by a step, settled by a settle that is not refused.
 
+-- a ticket, by what it says
 pub data Ticket : Type 0 where
   plain : Origin → Ticket
   making : Origin → ObjectId → Option Bound → Ticket
@@ -155,10 +163,12 @@ child_of None = None
 child_of (Some (plain o)) = None
 child_of (Some (making o child bound)) = Some child
 
+-- what is on paper of a ticket: that it was handed out, or that it was settled
 pub data Paper : Type 0 where
   handed : Ticket → Paper
   settled : Ticket → Paper
 
+-- the ticket that a step's answer hands out
 abbrev pub step_papers : StepAnswer → List Paper
 step_papers Idle = []
 step_papers Closed = []
@@ -189,6 +199,7 @@ ticket_given (remove i) = None
 ticket_given (flush c) = None
 ticket_given tidy = None
 
+-- the ticket that was given, settled
 abbrev settled_if : {A : Type 0} → Option Ticket → A → List Paper
 settled_if None a = []
 settled_if (Some t) a = settled t ∷ []
@@ -216,10 +227,12 @@ papers_shown t (tidied a) = []
 
 -- Over a history, the latest first.
 
+-- all objects that a history entered
 abbrev pub entries : History → List ObjectId
 entries [] = []
 entries (u ∷ h) = entries_shown u.answer ++ entries h
 
+-- the handles of ends
 abbrev pub objects_of : List End → List ObjectId
 objects_of [] = []
 objects_of (e ∷ es) = e.object ∷ objects_of es
@@ -229,6 +242,7 @@ abbrev pub ends : History → List ObjectId
 ends [] = []
 ends (u ∷ h) = objects_of (ends_shown u.answer) ++ ends h
 
+-- all that a history has on paper of tickets
 abbrev pub papers : History → List Paper
 papers [] = []
 papers (u ∷ h) = papers_shown (ticket_given u.call) u.answer ++ papers h

@@ -8,6 +8,7 @@ use Rattle.backend.specs.Perform.{Call, perform}
 use Rattle.accounts.specs.Shown.{entries_shown, ends_shown}
 use Rattle.accounts.specs.Accounts.{entries_in, ends_in}
 
+-- what was done, without to whom
 abbrev pub acts_in : List Deed → List Act
 acts_in [] = []
 acts_in (d ∷ ds) = d.act ∷ acts_in ds

@@ -8,6 +8,7 @@ use Rattle.accounts.specs.Histories.{History, deeds}
 use Rattle.accounts.specs.Shown.{entries, ends}
 use Rattle.accounts.specs.Accounts.{Has, Looks, of, acts_of, Unrefused, Side, delete, entry, sides, Agree, Found}
 
+-- what must not agree does not
 pub record Telling : Type 0 where
   -- a history in which two entries of a client share a handle does not agree
   pub one_handle_twice : (t : Terms) (h : History) (w : World) (c : ClientId) (x : ObjectId) (xs : List ObjectId) → of c (entries h) ≡ x ∷ xs → Has x xs → Agree t h w c → ⊥

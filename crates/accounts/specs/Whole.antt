@@ -8,6 +8,7 @@ use Rattle.accounts.specs.Histories.{History, Leads}
 use Rattle.accounts.specs.Accounts.{Agree, Found, Tickets}
 use Rattle.accounts.specs.Tied.{Tied}
 
+-- the accounts of a history, at the world that it leads to
 pub record Accounts (t : Terms) (h : History) (w : World) : Type 0 where
   pub clients : (c : ClientId) → Agree t h w c
   pub objects : Found t h w

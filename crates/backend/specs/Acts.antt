@@ -54,6 +54,7 @@ pub record Run : Type 0 where
 abbrev pub from : World → Run
 from w = record { world = w; deeds = [] }
 
+-- the same call, in another world
 abbrev pub in_world : (World → World) → Run → Run
 in_world f r = record { world = f r.world; deeds = r.deeds }
 
@@ -61,6 +62,7 @@ in_world f r = record { world = f r.world; deeds = r.deeds }
 abbrev pub seat : ClientId → Client → Run → Seat
 seat c k r = record { client = k; line = r.world.lines c.place; acts = [] }
 
+-- what was done to one client
 abbrev pub tagged : ClientId → List Act → List Deed
 tagged c = map (λ (a : Act). record { client = c; act = a })
 
@@ -80,9 +82,11 @@ struck r Live = Untold r
 struck r (Untold q) = Untold q
 struck r Told = Told
 
+-- the client with that reason, if it is the first
 abbrev pub killed : DisconnectReason → Client → Client
 killed r k = with_state (struck r k.state) k
 
+-- the client in its place is killed
 abbrev pub kill : DisconnectReason → Seat → Seat
 kill r s = record { client = killed r s.client; line = s.line; acts = s.acts }
 
@@ -93,6 +97,7 @@ abbrev pub lost : Result (Unit {0}) WriteError → Client → Client
 lost (Ok u) k = k
 lost (Err r) k = killed ConnectionClosed k
 
+-- what the wire made of an event
 abbrev pub heard : Result (Unit {0}) WriteError → EventModel → Act
 heard (Ok u) e = took e
 heard (Err r) e = refused e
@@ -105,6 +110,7 @@ offer e s = record { client = lost (write_answer e s.line) s.client; line = writ
 abbrev pub tell : EventModel → Seat → Seat
 tell e s = cond (is_live s.client.state) (offer e s) s
 
+-- all that waits on the line is carried away
 abbrev pub flush : Seat → Seat
 flush s = record { client = s.client; line = flushed_line s.line; acts = flushed ∷ s.acts }
 

@@ -60,9 +60,11 @@ pub record Checked : Type 0 where
   pub object : Option ObjectId
   pub fault : Option Failing
 
+-- the argument is in order
 abbrev pub passes : Option ObjectId → List ℕ → Option ObjectId → Seat → Checked
 passes child wanted object s = record { seat = s; child = child; wanted = wanted; object = object; fault = None }
 
+-- the argument is at fault
 abbrev pub fails : Option ObjectId → List ℕ → Failing → Seat → Checked
 fails child wanted f s = record { seat = s; child = child; wanted = wanted; object = None; fault = Some f }
 
@@ -71,11 +73,13 @@ abbrev pub forbids_null : AllowNull → Bool
 forbids_null Yes = false
 forbids_null No = true
 
+-- the argument is a null text
 abbrev pub is_null_text : Option (Option Part) → Bool
 is_null_text None = false
 is_null_text (Some None) = true
 is_null_text (Some (Some p)) = false
 
+-- a text: at fault where it is null and that is not allowed
 abbrev pub text_argument : ℕ → AllowNull → Option (Option Part) → Option ObjectId → List ℕ → Seat → Checked
 text_argument i n text child wanted s =
     cond (is_null_text text) (cond (forbids_null n) (fails child wanted (at_argument i NullText null_text) s) (passes child wanted None s)) (passes child wanted None s)
@@ -85,6 +89,7 @@ abbrev pub next_row : List ℕ → ℕ
 next_row [] = 0
 next_row (r ∷ rs) = r
 
+-- the argument rows behind the next
 abbrev pub later_rows : List ℕ → List ℕ
 later_rows [] = []
 later_rows (r ∷ rs) = rs
@@ -100,6 +105,7 @@ live_argument t q i id (Some o) child wanted s =
     (invalid_object id (name_in t.rows q.sender.row) q.message.name (name_in t.rows (next_row wanted)) (name_in t.rows o.row)))
     s)
 
+-- an object: null where that is allowed, or live and of its argument row's interface
 abbrev pub object_argument : Terms → Asked → ℕ → AllowNull → Option ℕ → Option ObjectId → List ℕ → Seat → Checked
 object_argument t q i n None child wanted s = passes child (later_rows wanted) None s
 object_argument t q i n (Some id) child wanted s =
@@ -121,6 +127,7 @@ entering q i id (Ok u) child wanted s =
     (enter q.sender.client id (child_row q.message.child) q.version Awaited s)
 entering q i id (Err f) child wanted s = fails child wanted (entry_failing i f id) (draw s)
 
+-- a new id is entered
 abbrev pub new_id_argument : Asked → ℕ → Option ℕ → Option ObjectId → List ℕ → Seat → Checked
 new_id_argument q i None child wanted s = passes child wanted None s
 new_id_argument q i (Some id) child wanted s = entering q i id (insert_answer s.client.map id) child wanted s

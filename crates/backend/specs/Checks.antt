@@ -36,6 +36,7 @@ present (Some a) e = Ok a
 abbrev pub the_client : World → ClientId → Result Client Refusal
 the_client w c = present (client_at w c) NoClient
 
+-- a name that names nothing is of a dead object
 abbrev pub alive : Result (Object ObjectData) InvalidId → Result (Object ObjectData) Refusal
 alive (Ok o) = Ok o
 alive (Err e) = Err DeadObject

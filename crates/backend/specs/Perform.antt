@@ -72,6 +72,7 @@ pub data Answer : Type 0 where
   flushed : Result ℕ Refusal → Answer
   tidied : TidyAnswer → Answer
 
+-- what a call answers, and what it did
 pub record Outcome : Type 0 where
   pub answer : Answer
   pub run : Run
@@ -93,6 +94,7 @@ settled_by says t w d = record { answer = says (Ok d.value); run = d.run }
 abbrev pub returned : {A T : Type 0} → (Result A T → Answer) → T → World → Outcome
 returned says t w = record { answer = says (Err t); run = from w }
 
+-- what each call means
 abbrev pub perform : Terms → Call → World → Outcome
 perform t (admit d) w = checked admitted (admit_check w) w (admit_act d w)
 perform t (step c b) w = checked stepped (step_check c b w) w (step_act t c b w)
@@ -120,5 +122,6 @@ abbrev pub buffers_in : Terms → ClientId → Buffers → World → Result Clie
 buffers_in t c b w (Err e) = b
 buffers_in t c b w (Ok k) = (step_of t c b w k).buffers
 
+-- the buffers of a step after it
 abbrev pub buffers_after : Terms → ClientId → Buffers → World → Buffers
 buffers_after t c b w = buffers_in t c b w (step_check c b w)

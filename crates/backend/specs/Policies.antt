@@ -2,6 +2,7 @@
 use Rattle.std.specs.Prelude.{ℕ, Bool, true, false, cond, ◌&&◌, List, [], ◌∷◌, ◌==◌}
 use Rattle.backend.specs.declared.policy.Pair.{Pair}
 
+-- the pair is of this data and this handler
 abbrev pub is_pair : Pair → ℕ → ℕ → Bool
 is_pair p d h = p.«data» == d && p.handler == h
 

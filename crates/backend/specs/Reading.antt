@@ -47,6 +47,7 @@ as_new_id (NewId x) = Some x
 as_new_id (Array x) = None
 as_new_id (Fd x) = None
 
+-- one after the other, where there is a first
 abbrev pub if_some : {A B : Type 0} → Option A → (A → Option B) → Option B
 if_some None f = None
 if_some (Some a) f = f a

@@ -28,6 +28,7 @@ without x [] = []
 without x (None ∷ roll) = None ∷ without x roll
 without x (Some y ∷ roll) = cond (same_object x y) (roll ++ None ∷ []) (Some y ∷ without x roll)
 
+-- the world without a registry on its roll
 abbrev pub off_roll : ObjectId → World → World
 off_roll x w = with_roll (without x w.engine.registry.roll) w
 
@@ -41,6 +42,7 @@ global_id name g = record { name = name; serial = g.serial }
 abbrev pub global_named : List (Option Global) → ℕ → Option Global
 global_named globals name = cond (name == 0) None (at globals (name - 1))
 
+-- the global, if its serial is the handle's
 abbrev pub holding : GlobalId → Option Global → Option Global
 holding i None = None
 holding i (Some g) = cond (g.serial == i.serial) (Some g) None
@@ -70,6 +72,7 @@ announce_all t registry name (Some g ∷ gs) s = announce_all t registry (name +
 abbrev pub retract : ℕ → ObjectId → Seat → Seat
 retract name registry s = tell (global_remove registry.id name) s
 
+-- something is done to the client of a registry, if it is there
 abbrev pub visit : ClientId → (Seat → Seat) → Option Client → Run → Run
 visit c f None r = r
 visit c f (Some k) r = resumed c (f (seat c k r)) r

@@ -61,9 +61,11 @@ laid (o ∷ os) [] = []
 laid (None ∷ os) (x ∷ xs) = x ∷ laid os xs
 laid (Some y ∷ os) (x ∷ xs) = y ∷ laid os xs
 
+-- the buffers with a text at the front
 abbrev pub with_text : List ℕ → Buffers → Buffers
 with_text text b = record { message = b.message; objects = b.objects; body = b.body; text = overlaid text b.text }
 
+-- the buffers with handles for the objects of the message
 abbrev pub with_objects : List (Option ObjectId) → Buffers → Buffers
 with_objects os b = record { message = b.message; objects = laid os b.objects; body = b.body; text = b.text }
 
@@ -109,6 +111,7 @@ enlisted p id (Some i) s b = record {
   buffers = b;
 }
 
+-- a registry is asked for, at this id
 abbrev pub registered : Place → ℕ → Result (Unit {0}) MapFault → Seat → Buffers → Stepped
 registered p id (Err f) s b = failed p (entry_failing 0 f id) None (draw s) b
 registered p id (Ok u) s b = enlisted p id (roll_end p.registry.roll) s b
@@ -135,10 +138,12 @@ bind_entered p o name version id g (Ok u) s b =
     (None ∷ None ∷ None ∷ Some (fresh p.client id g.row s.client) ∷ [])
     (enter p.client id g.row version Awaited s) b
 
+-- a bind to what is under that name
 abbrev pub bind_to : Place → Origin → ℕ → List ℕ → ℕ → ℕ → Option Global → Seat → Buffers → Stepped
 bind_to p o name interface version id None s b = failed p (record { fault = fault.InvalidBinding; text = invalid_binding interface version name }) None s b
 bind_to p o name interface version id (Some g) s b = bind_entered p o name version id g (insert_answer s.client.map id) s b
 
+-- a bind to a global of that name and interface
 abbrev pub bind_named : Place → Origin → ℕ → Option Part → ℕ → ℕ → Seat → Buffers → Stepped
 bind_named p o name None version id s b = failed p (at_argument 1 NullInterface null_interface) None s b
 bind_named p o name (Some text) version id s b =
@@ -152,6 +157,7 @@ bound p o (Some a) s b = bind_named p o a.name a.interface a.version a.new_id s 
 
 -- Any other request.
 
+-- a ticket, making where an object was entered
 abbrev pub hand_out : Place → Origin → Option ObjectId → List (Option ObjectId) → Seat → Buffers → Stepped
 hand_out p o None os s b = hand_plain p o os s b
 hand_out p o (Some child) os s b = hand_making p o child None os s b
@@ -190,9 +196,11 @@ dispatched p o sender m as' s b =
 abbrev pub received_at : MessageModel → Seat → Buffers → Seat
 received_at m s b = record { client = s.client; line = read_after (length b.body) m.kinds s.line; acts = received ∷ s.acts }
 
+-- the buffers with what was read
 abbrev pub filled : Content → Buffers → Buffers
 filled c b = record { message = message_after (Some c) b.message; objects = b.objects; body = body_after (Some c) b.body; text = b.text }
 
+-- a request that is malformed, or was read
 abbrev pub read_in : Place → Origin → Object ObjectData → MessageModel → Option Content → Seat → Buffers → Stepped
 read_in p o sender m None s b = failed p (record { fault = fault.Malformed; text = malformed_request }) None s b
 read_in p o sender m (Some c) s b = dispatched p o sender m c.arguments (received_at m s b) (filled c b)
@@ -203,6 +211,7 @@ of_message p id opcode sender None s b = failed p (record { fault = fault.Unknow
 of_message p id opcode sender (Some m) s b =
     read_in p (origin_of p.client id opcode sender m) sender m (reads (length b.body) m.kinds s.line) s b
 
+-- a request of this sender
 abbrev pub of_sender : Place → ℕ → ℕ → Option (Object ObjectData) → Seat → Buffers → Stepped
 of_sender p id opcode None s b = failed p (record { fault = fault.UnknownSender; text = unknown_id id }) None s b
 of_sender p id opcode (Some o) s b = of_message p id opcode o (request_in p.terms.rows o.row opcode) s b

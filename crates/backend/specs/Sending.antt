@@ -38,6 +38,7 @@ plain_argument (NewId x) = NewId x.id
 plain_argument (Array x) = Array x
 plain_argument (Fd x) = Fd x
 
+-- all of them as they go to the wire
 abbrev pub plain_arguments : List SendArgument → List (Argument ℕ (List ℕ))
 plain_arguments [] = []
 plain_arguments (a ∷ as') = plain_argument a ∷ plain_arguments as'
@@ -46,6 +47,7 @@ plain_arguments (a ∷ as') = plain_argument a ∷ plain_arguments as'
 abbrev pub sent_event : ObjectId → ℕ → List SendArgument → EventModel
 sent_event x opcode as' = record { sender = x.id; opcode = opcode; arguments = plain_arguments as' }
 
+-- a look-up that found nothing
 abbrev pub is_dead : Result (MapObject ObjectData) InvalidId → Bool
 is_dead (Ok o) = false
 is_dead (Err e) = true
@@ -61,6 +63,7 @@ send_object rows c k n row x =
     (passing (unless (same_client x.client c) OtherClient) (λ _.
     passing (unless (not (dead k x)) DeadArgument) (λ _. unless (admits_in rows row x.row) WrongInterface)))
 
+-- a new object is of the interface that the event makes
 abbrev pub child_fits : List RowModel → Option ℕ → ObjectId → Result (Unit {0}) Refusal
 child_fits rows None x = Err NoChild
 child_fits rows (Some row) x = unless (same_interface rows row x.row) WrongInterface
@@ -72,6 +75,7 @@ send_new_id rows c k child x =
     (passing (unless (same_client x.client c) OtherClient) (λ _.
     passing (unless (not (dead k x)) DeadArgument) (λ _. child_fits rows child x)))
 
+-- the argument is a null text
 abbrev pub null_text_given : Option (Option (List ℕ)) → Bool
 null_text_given None = false
 null_text_given (Some None) = true
@@ -81,10 +85,12 @@ null_text_given (Some (Some t)) = false
 abbrev pub send_text : AllowNull → Option (Option (List ℕ)) → Result (Unit {0}) Refusal
 send_text n text = unless (not (null_text_given text && forbids_null n)) NullArgument
 
+-- an object argument, if it is one
 abbrev pub if_object : List RowModel → ClientId → Client → AllowNull → ℕ → Option ObjectId → Result (Unit {0}) Refusal
 if_object rows c k n row None = Ok tt
 if_object rows c k n row (Some x) = send_object rows c k n row x
 
+-- a new id, if it is one
 abbrev pub if_new_id : List RowModel → ClientId → Client → Option ℕ → Option ObjectId → Result (Unit {0}) Refusal
 if_new_id rows c k child None = Ok tt
 if_new_id rows c k child (Some x) = send_new_id rows c k child x

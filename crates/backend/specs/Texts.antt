@@ -3,6 +3,7 @@ use Rattle.std.specs.Prelude.{ℕ, cond, ◌&&◌, List, [], ◌++◌, map, take
 use Rattle.protocol.specs.Meaning.{heading_in}
 use Rattle.protocol.specs.Model.{RowModel, Title}
 
+-- a name, or nothing
 abbrev pub name_of : Option Title → List ℕ
 name_of None = []
 name_of (Some h) = h.name

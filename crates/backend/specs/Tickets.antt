@@ -15,6 +15,7 @@ use Rattle.backend.specs.Ids.{same_client, same_object, same_global}
 abbrev pub PlainTicket : Type 0
 PlainTicket = Ticket Origin
 
+-- a ticket of a request that makes an object
 abbrev pub MakingTicket : Type 0
 MakingTicket = Ticket Making
 

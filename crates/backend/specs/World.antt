@@ -26,6 +26,7 @@ pub record Terms : Type 0 where
   pub rows : List RowModel
   pub shows : ClientId → ℕ → GlobalId → ℕ → Bool
 
+-- the engine, and a line for each place
 pub record World : Type 0 where
   pub engine : Engine
   pub lines : ℕ → Line
@@ -34,9 +35,11 @@ pub record World : Type 0 where
 abbrev pub client_places : ℕ
 client_places = 8
 
+-- how many globals there can be
 abbrev pub global_places : ℕ
 global_places = 32
 
+-- how many registries there can be
 abbrev pub roll_places : ℕ
 roll_places = 32
 
@@ -58,11 +61,13 @@ following n = wrapped (n + 1)
 
 -- Clients.
 
+-- the client is not killed
 abbrev pub is_live : ClientState → Bool
 is_live Live = true
 is_live (Untold r) = false
 is_live Told = false
 
+-- the client of a place, if its serial is the handle's
 abbrev pub named : ClientId → Option Client → Option Client
 named c None = None
 named c (Some k) = cond (k.serial == c.serial) (Some k) None
@@ -71,9 +76,11 @@ named c (Some k) = cond (k.serial == c.serial) (Some k) None
 abbrev pub client_at : World → ClientId → Option Client
 client_at w c = named c (at w.engine.store.clients.places c.place)
 
+-- the client in another state
 abbrev pub with_state : ClientState → Client → Client
 with_state s k = record { serial = k.serial; «data» = k.«data»; state = s; last_serial = k.last_serial; map = k.map }
 
+-- the client with another map
 abbrev pub with_map : ObjectMap ObjectData → Client → Client
 with_map m k = record { serial = k.serial; «data» = k.«data»; state = k.state; last_serial = k.last_serial; map = m }
 
@@ -87,15 +94,19 @@ drawn k = record { serial = k.serial; «data» = k.«data»; state = k.state; la
 
 -- Parts of a world.
 
+-- the world with another engine
 abbrev pub with_engine : Engine → World → World
 with_engine e w = record { engine = e; lines = w.lines }
 
+-- the world with other clients
 abbrev pub with_store : ClientStore → World → World
 with_store s w = with_engine (record { store = s; registry = w.engine.registry; outstanding = w.engine.outstanding }) w
 
+-- the world with another registry
 abbrev pub with_registry : Registry → World → World
 with_registry r w = with_engine (record { store = w.engine.store; registry = r; outstanding = w.engine.outstanding }) w
 
+-- the world with another ticket outstanding
 abbrev pub with_outstanding : Outstanding → World → World
 with_outstanding o w = with_engine (record { store = w.engine.store; registry = w.engine.registry; outstanding = o }) w
 
@@ -107,6 +118,7 @@ with_content p o t = record { places = slice_set t.places p o; len = t.len }
 abbrev pub with_place : ℕ → Option Client → World → World
 with_place p k w = with_store (record { clients = with_content p k w.engine.store.clients; last_serial = w.engine.store.last_serial }) w
 
+-- the world with another roll
 abbrev pub with_roll : List (Option ObjectId) → World → World
 with_roll xs w = with_registry (record { globals = w.engine.registry.globals; last_serial = w.engine.registry.last_serial; roll = xs }) w
 

@@ -54,6 +54,7 @@ pub record Asks (r : Waiting) (sender opcode : ℕ) (kinds : List ArgumentType) 
 abbrev pub AsksSync : Waiting → ℕ → Type 0
 AsksSync r id = Asks r 1 0 (kind.NewId ∷ []) (NewId id ∷ [])
 
+-- the request is get_registry with this new id
 abbrev pub AsksRegistry : Waiting → ℕ → Type 0
 AsksRegistry r id = Asks r 1 1 (kind.NewId ∷ []) (NewId id ∷ [])
 
@@ -134,6 +135,7 @@ pub record WorkedCases (t : Terms) (d : ℕ) (w : World) (c : ClientId) (b : Buf
       → Ends c (first_object c 0xFF00_0000 2) (stepping t c b r (welcomed t d w)).run.world
       (perform t (destroy (first_object c 0xFF00_0000 2)) (stepping t c b r (welcomed t d w)).run.world)
 
+-- the worked cases stand, and there is a client that they are about
 pub record CasesStand : Type 0 where
   -- the cases stand of any client that was just admitted
   pub stand : (t : Terms) (d : ℕ) (w : World) (c : ClientId) (b : Buffers) → Admitted t d w c → roomy b ≡ true → WorkedCases t d w c b

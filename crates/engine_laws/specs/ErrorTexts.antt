@@ -44,6 +44,7 @@ number_of (NewId x) = x
 number_of (Array x) = 0
 number_of (Fd x) = 0
 
+-- the numbers of a request have 32 bits
 pub record NarrowRequest (r : Waiting) : Type 0 where
   pub sender : r.sender < 2 ^ 32
   pub opcode : r.opcode < 2 ^ 32

@@ -17,6 +17,7 @@ use Rattle.accounts.specs.Whole.{most}
 abbrev pub IsDeleteId : EventModel → Type 0
 IsDeleteId e = (id : ℕ) × (id < limit) × (e ≡ delete_id id)
 
+-- every event of the list is delete_id
 abbrev pub AllDeleteIds : List EventModel → Type 0
 AllDeleteIds [] = Unit {0}
 AllDeleteIds (e ∷ es) = IsDeleteId e × AllDeleteIds es

@@ -8,6 +8,7 @@ use Rattle.backend.specs.Acts.{from}
 use Rattle.backend.specs.Requests.{Buffers}
 use Rattle.backend.specs.Perform.{Call, step, Answer, admitted, stepped, settled_plain, settled_making, created, destroyed, sent, looked, changed, found, found_next, posted, killed, added, disabled, removed, flushed, tidied, perform, buffers_after}
 
+-- the error of an answer, if it is one
 abbrev pub error_of : {A E : Type 0} → Result A E → Option E
 error_of (Ok a) = None
 error_of (Err e) = Some e
@@ -38,6 +39,7 @@ refusal_of (removed r) = error_of r
 refusal_of (flushed r) = error_of r
 refusal_of (tidied a) = None
 
+-- a refusal leaves everything as it was
 pub record RefusalsChangeNothing : Type 0 where
   -- A call that is refused, whichever of the eighteen it is and whatever the refusal, leaves the engine and every line as they were, and
   -- does nothing to any client.

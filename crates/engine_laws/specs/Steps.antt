@@ -43,6 +43,7 @@ pub record KillsAlone (t : Terms) (c : ClientId) (b : Buffers) (w : World) (k : 
   pub lines : (p : ℕ) → (perform t (step c b) w).run.world.lines p ≡ w.lines p
   pub buffers : buffers_after t c b w ≡ b
 
+-- when a step is idle, and when it finds the line broken
 pub record StepsAreNotIdle : Type 0 where
   -- A step on a line with a request waiting is never idle: it is so only where no request waits on its client's line, and the line is
   -- not broken.
@@ -160,6 +161,7 @@ after t c b w = (perform t (step c b) w).run.world
 abbrev pub Takes : Terms → ClientId → Buffers → World → Type 0
 Takes t c b w = ((after t c b w).lines c.place).requests ≡ others (w.lines c.place).requests
 
+-- what a request that breaks no rule comes to
 pub record SoundRequestsHandOut : Type 0 where
   -- Where a request waits, a step that is not refused hands out a ticket, unless the request broke a rule or is one that the engine
   -- answers itself.

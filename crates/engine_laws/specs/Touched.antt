@@ -11,6 +11,7 @@ use Rattle.backend.specs.declared.answers.TidyAnswer.TheVariants.{Vacated}
 use Rattle.backend.specs.World.{Terms, World, client_at, is_live}
 use Rattle.backend.specs.Perform.{Call, admit, step, settle_plain, settle_making, create, destroy, send, look, set, find, next, post, kill, add, disable, remove, flush, tidy, admitted, added, disabled, tidied, perform}
 
+-- the registry is on the roll
 abbrev pub OnRoll : ObjectId → List (Option ObjectId) → Type 0
 OnRoll x [] = ⊥
 OnRoll x (None ∷ roll) = OnRoll x roll
