@@ -20,3 +20,4 @@ mod Announcements
 mod RollAnnouncements
 mod RisingNames
 mod KilledStays
+mod SlipLemmas

@@ -6,3 +6,4 @@ pub mod EndsOnce
 pub mod ErrorTexts
 pub mod Killed
 pub mod Announced
+pub mod Slips

@@ -9,5 +9,6 @@ pub mod ends_once;
 pub mod error_texts;
 pub mod killed;
 pub mod refused;
+pub mod slips;
 pub mod steps;
 pub mod touched;
