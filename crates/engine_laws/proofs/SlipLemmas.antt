@@ -1,6 +1,5 @@
 -- Why the slips are ruled out.
 use Rattle.std.proofs.Common.{◌≡◌, ℕ, Bool, true, false, cond, List, Some, None, Ok, Err, Option, Result, sym, refl, ap, ◌∙◌, arith}
-use Rattle.std.proofs.lemmas.Bool.{cases_Bool, cond-true, cond-false, cond_both}
 use Rattle.map.specs.declared.fault.MapFault.{MapFault}
 use Rattle.map.specs.Map.{insert_answer}
 use Rattle.laws.proofs.Kept.{length_laws}
@@ -15,12 +14,12 @@ use Rattle.backend.specs.declared.ticket.Origin.{Origin}
 use Rattle.backend.specs.declared.ticket.Outstanding.TheVariants as out
 use Rattle.backend.specs.Tickets.{PlainTicket, MakingTicket, same_ticket}
 use Rattle.backend.specs.World.{Terms, World}
-use Rattle.backend.specs.Acts.{Seat, from, Run}
+use Rattle.backend.specs.Acts.{Seat, from}
 use Rattle.backend.specs.Arguments.{Asked, argument, entering, new_id_argument}
 use Rattle.backend.specs.Checks.{Owned, the_owned}
 use Rattle.backend.specs.Calls.{info_of, living, living_of, sender_ends, settle_sender, plain_act, making_act, done}
 use Rattle.backend.specs.Reading.{as_new_id}
-use Rattle.backend.specs.Perform.{Answer, look, settle_plain, settle_making, looked, settled_plain, settled_making, told, returned, settled_by, perform}
+use Rattle.backend.specs.Perform.{settle_plain, looked, settled_plain, settled_making, told, returned, settled_by, perform}
 use Rattle.engine_laws.specs.Slips.{SlipsAreRuledOut}
 
 refused : (w : World) (x : ObjectId) (e : Refusal) (r : Result Owned Refusal) → the_owned w x ≡ r → (told looked r w info_of).answer ≡ looked (Err e) → living w x ≡ None

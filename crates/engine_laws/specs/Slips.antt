@@ -1,5 +1,5 @@
 -- Three slips that an engine like this invites, and that what the calls mean rules out.
-use Rattle.std.specs.Prelude.{◌≡◌, ℕ, true, List, Some, None, Ok, Err, Option}
+use Rattle.std.specs.Prelude.{◌≡◌, ℕ, true, List, None, Ok, Err, Option}
 use Rattle.map.specs.declared.ObjectMap.{ObjectMap}
 use Rattle.map.specs.declared.ObjectData.{ObjectData}
 use Rattle.map.specs.Map.{removed}
