@@ -67,6 +67,7 @@ pub enum SendAnswer {
 }
 
 /// What an object is.
+// No `Object<DataMark>`, which has the same parts: an answer names the mark, and the rules this answer.
 #[derive(Clone, Copy, PartialEq, Eq, Debug)]
 pub struct ObjectInfo {
     pub row: u32,
@@ -95,6 +96,7 @@ pub enum DisableAnswer {
 }
 
 /// What a tidying did, at the lowest place of a killed client.
+// No Option round the other cases: the four have names in the rules.
 #[derive(Clone, Copy, PartialEq, Eq, Debug)]
 pub enum TidyAnswer {
     /// the reason is told

@@ -18,6 +18,7 @@ pub struct ProtocolError {
 }
 
 /// Why a client was killed.
+// No Option of an error: both cases are reasons, with names in the crate and in the rules.
 #[derive(Clone, Copy, PartialEq, Eq, Debug)]
 pub enum DisconnectReason {
     /// its line is broken, or a write to it was refused

@@ -17,7 +17,7 @@ pub struct ClientId {
 }
 
 /// An object of a client.
-// Three parts as in `LocalId`, written out: a handle goes over to others, who read its parts and not a part's parts.
+// The parts of a `LocalId`, written out: a handle's id, serial and row are read far more often than they are handed on together.
 #[derive(Clone, Copy, PartialEq, Eq, Debug)]
 pub struct ObjectId {
     pub client: ClientId,

@@ -149,7 +149,7 @@ fn messages_that_break_a_law(rt: HostRuntime) -> Result<(), Fail> {
     Ok(())
 }
 
-/// Empty, one of the core's, one with a zero, and one of 33 bytes.
+/// Empty, the four of the core, one with a zero, and one of 33 bytes.
 const BAD_NAMES: [&[u8]; 7] = [
     b"",
     b"wl_display",
@@ -169,7 +169,7 @@ const WIDEST: Described = Described {
     ..NONE
 };
 
-/// A message that breaks one law each.
+/// Messages, each of which breaks one law.
 const BROKEN: [Described; 8] = [
     Described {
         name: b"",

@@ -7,7 +7,7 @@ use std::alloc::{AllocError, Global};
 use wire::queued::{Lent, QueueWire, Request};
 
 /// What a queue wire borrows, and the request that is put on it.
-// Vecs of fixed length, and no arrays: tried, and a wire over arrays of a struct gets no proof.
+// Vecs of fixed length, and no arrays, since a wire over arrays of a struct gets no proof.
 #[derive(Drop)]
 pub struct Memory<'b> {
     request: Request<'b>,

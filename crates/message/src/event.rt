@@ -44,7 +44,8 @@ impl Event {
     }
 }
 
-// How many bytes the arguments have together.
+// How many bytes the arguments have together. This and the next three take the bytes beside their arguments: a struct of the two would be
+// made in one line and taken apart in the next.
 fn total(arguments: &[Argument<u32, Part>], bytes: &[u8]) -> usize
     requires few { length arguments.now ≤ 8 }
     requires short { length bytes.now ≤ 256 }

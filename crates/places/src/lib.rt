@@ -55,7 +55,7 @@ pub fn take<T: Drop>(places: &mut [Option<T>], index: usize) -> Option<T>
     }
 }
 
-// The first vacant place of some. It and the next function differ in the test alone: each is one call of the library's search.
+// The first of these places that is vacant. This and the next function differ in the test alone: each is one call of the library's search.
 fn vacant_among<T>(places: &[Option<T>]) -> Option<usize>
     ensures answer { result ≡ position (λ place. not (is_some place)) places.now }
     ensures within { IfSome result (λ i. i < length places.now) }
@@ -63,7 +63,7 @@ fn vacant_among<T>(places: &[Option<T>]) -> Option<usize>
     places.iter().position(|place| place.is_none())
 }
 
-// The first occupied place of some.
+// The first of these places that is occupied.
 fn occupied_among<T>(places: &[Option<T>]) -> Option<usize>
     ensures answer { result ≡ position (λ place. is_some place) places.now }
     ensures within { IfSome result (λ i. i < length places.now) }

@@ -75,7 +75,7 @@ impl MessageBuf {
 }
 
 /// Whether two names are the same bytes.
-// `==` under the name of the rule, so that what a name is compared by stands once.
+// No more than `==`, but its callers then cite the rule for names by its name.
 pub fn same_name(a: &[u8], b: &[u8]) -> bool
     ensures { result ≡ bytes_eq a.now b.now }
 {

@@ -21,7 +21,7 @@ fn is_named(name: &[u8]) -> bool
     !name.is_empty() && name.len() <= NAME_BYTES && name.iter().all(|byte| *byte > 0)
 }
 
-// How many arguments are objects. It and the next function differ in the test alone: each is one chain, for a contract to name.
+// How many arguments are objects. This and the next function differ in the test alone, and each is one chain of the library's.
 fn objects(signature: &[ArgumentType]) -> usize
     ensures { result ≡ count is_object signature.now }
 {

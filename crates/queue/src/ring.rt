@@ -66,8 +66,8 @@ impl Mark {
         Ok(())
     }
 
-    // The first item, which leaves. The cells are only read, but come as `&mut`: after a part of a field's slice is lent as `&`, too
-    // little of it is known.
+    // The first item, which leaves. The cells are only read, but come as `&mut`: were a part of a field's slice lent as `&`, the
+    // check would not know afterwards that the slice is the same.
     pub(crate) fn pop<T: Copy>(&mut self, cells: &mut [T]) -> Option<T>
         requires { Sound (length cells.old) self.old }
         ensures sound { Sound (length cells.old) self.new }

@@ -18,6 +18,7 @@ pub fn arguments_of(words: &mut Words<'_>) -> Result<Option<Message>, Misread> {
         .enumerate()
     {
         *argument = argument_of(start, word)?;
+        // how many are read so far
         message.count = index + 1;
     }
     Ok(words.next().is_none().then_some(message))
@@ -91,6 +92,7 @@ pub struct Arguments<'a> {
 impl<'a> fmt::Display for Arguments<'a> {
     fn fmt<W: fmt::Write>(&self, f: &mut fmt::Formatter<W>) -> fmt::Result {
         for (index, argument) in Reader::new(self.message, self.body).enumerate() {
+            // the index only tells the first one apart: no flag or text is then kept from turn to turn
             if index > 0 {
                 f.write_str(self.between)?;
             }

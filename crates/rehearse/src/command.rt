@@ -4,11 +4,12 @@ use crate::arguments::{arguments_of, event_of, signature};
 use crate::described::interface;
 use crate::verb::Verb;
 use crate::words::{Misread, Words};
-use map::{DataMark, LocalId, Object, ObjectData};
+use map::{DataMark, LocalId, Object};
 use message::{Event, Message};
 use protocol::argument::ArgumentType;
 use protocol::interface::InterfaceBuf;
 use std::alloc::Global;
+use std::fmt;
 use thiserror::Error;
 
 /// The most places of a wire.
@@ -39,6 +40,16 @@ pub struct Plan {
     /// the cells of each place
     pub requests: usize,
     pub events: usize,
+}
+
+impl fmt::Display for Plan {
+    fn fmt<W: fmt::Write>(&self, f: &mut fmt::Formatter<W>) -> fmt::Result {
+        match self.own {
+            None => f.write_str("queue wire")?,
+            Some(own) => write!(f, "metered wire of {own}")?,
+        }
+        write!(f, ": {} places, {} events each", self.places, self.events)
+    }
 }
 
 /// A call to a wire at a place. It holds no reference, so that the script's lines can be lent to the wire beside it.
@@ -81,25 +92,7 @@ pub enum View {
 }
 
 /// An object that is to be entered; the session gives it its serial.
-#[derive(Clone, Copy)]
-pub struct NewObject {
-    pub row: u32,
-    pub version: u32,
-    pub mark: DataMark,
-}
-
-impl NewObject {
-    pub fn with_serial(self, serial: u32) -> Object<ObjectData> {
-        Object {
-            row: self.row,
-            version: self.version,
-            data: ObjectData {
-                serial,
-                mark: self.mark,
-            },
-        }
-    }
-}
+pub type NewObject = Object<DataMark>;
 
 /// Why a line is no call.
 #[derive(Debug, Drop, Error)]
@@ -200,7 +193,7 @@ fn new_object(words: &mut Words<'_>) -> Result<NewObject, Misread> {
     Ok(NewObject {
         row: words.number()?,
         version: words.number()?,
-        mark: words.mark()?,
+        data: words.mark()?,
     })
 }
 

@@ -7,11 +7,12 @@ ghost use Rattle.rehearse.specs.declared.command.Plan.{Plan};
 
 use crate::command::{Call, Mistake, Plan, WireCall, read_call};
 use crate::session::Session;
-use crate::wires::Over;
+use crate::wires::{FarSide, Over};
 use message::{Event, Message};
 use queue::Mark;
 use std::alloc::AllocError;
 use std::io;
+use wire::Wire;
 use wire::metered::MeteredWire;
 use wire::queued::{Lent, QueueWire, Request};
 
@@ -83,29 +84,23 @@ impl<'r, 'b> Script<'r, 'b> {
     fn answer_over(&mut self, plan: Plan) -> io::Result<Option<Plan>>
         ensures { (p : Plan) → result ≡ Ok (Some p) → length self.new.lines.now < length self.old.lines.now }
     {
-        let rt = self.rt;
-        let heap = rt.alloc();
         let mut memory = self.memory(plan)?;
         let wire = memory.wire();
-        let Plan {
-            own,
-            places,
-            events,
-            ..
-        } = plan;
-        // twice the same steps, since the two wires have different types
-        match own {
-            None => {
-                let mut over = Over::new(heap, wire)?;
-                println!(rt; "queue wire: {places} places, {events} events each")?;
-                self.answer(|line, call| over.perform(line, call))
-            }
-            Some(own) => {
-                let mut over = Over::new(heap, MeteredWire::new(wire, own))?;
-                println!(rt; "metered wire of {own}: {places} places, {events} events each")?;
-                self.answer(|line, call| over.perform(line, call))
-            }
+        match plan.own {
+            None => self.answer_on(plan, wire),
+            Some(own) => self.answer_on(plan, MeteredWire::new(wire, own)),
         }
+    }
+
+    fn answer_on<W>(&mut self, plan: Plan, wire: W) -> io::Result<Option<Plan>>
+    where
+        W: Wire + FarSide<'b> + Drop,
+        ensures { (p : Plan) → result ≡ Ok (Some p) → length self.new.lines.now < length self.old.lines.now }
+    {
+        let rt = self.rt;
+        let mut over = Over::new(rt.alloc(), wire)?;
+        println!(rt; "{plan}")?;
+        self.answer(|line, call| over.perform(line, call))
     }
 
     // The memory of a wire. The bodies of its requests live as long as the lines.

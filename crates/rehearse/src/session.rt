@@ -67,7 +67,7 @@ impl Session {
 
     fn enter(&mut self, id: u32, object: NewObject) -> Result<String, AllocError> {
         let serial = self.next_serial();
-        match self.objects.insert_at(id, object.with_serial(serial)) {
+        match self.objects.insert_at(id, with_serial(object, serial)) {
             Ok(()) => format!(in self.heap; "entered {id} serial {serial}"),
             Err(fault) => format!(in self.heap; "not entered: {fault}"),
         }
@@ -75,7 +75,7 @@ impl Session {
 
     fn create(&mut self, object: NewObject) -> Result<String, AllocError> {
         let serial = self.next_serial();
-        match self.objects.server_insert_new(object.with_serial(serial)) {
+        match self.objects.server_insert_new(with_serial(object, serial)) {
             Some(id) => format!(in self.heap; "entered {id} serial {serial}"),
             None => format!(in self.heap; "not entered: {}", MapFault::Full),
         }
@@ -141,5 +141,16 @@ impl fmt::Display for Live {
             f,
             "object {id} row {row} version {version} serial {serial} data {mark}"
         )
+    }
+}
+
+fn with_serial(object: NewObject, serial: u32) -> Object<ObjectData> {
+    Object {
+        row: object.row,
+        version: object.version,
+        data: ObjectData {
+            serial,
+            mark: object.data,
+        },
     }
 }

@@ -13,7 +13,7 @@ use wire::queued::{QueueWire, Request};
 use wire::{BODY_BYTES, Wire};
 
 /// The other side of a wire: what comes in, and what waits to go out. The bodies of its requests live as long as `'b`.
-// The calls are passed on one by one: tried, and a method that lends the queue wire below by `&mut` gets no proof.
+// The calls are passed on one by one, since a method that lends the queue wire below by `&mut` gets no proof.
 pub trait FarSide<'b> {
     fn put(&mut self, place: usize, request: Request<'b>) -> Result<(), Refusal>;
 
@@ -33,7 +33,7 @@ impl<'a, 'b> FarSide<'b> for QueueWire<'a, 'b> {
     }
 
     fn events(&self, heap: Global, place: usize) -> Result<Vec<Event>, AllocError> {
-        // no place has more events than cells
+        // A wire gives its events by index alone, and no place has more of them than cells.
         (0..CELLS)
             .map_while(|index| self.event(place, index))
             .collect(heap)

@@ -15,7 +15,7 @@ pub enum Misread {
     NoMemory,
 }
 
-// By hand, both: a derived one keeps the error that it comes from, and there is nothing in this to keep.
+// By hand, both: a derived conversion keeps the error that it comes from, and this one drops it.
 impl From<AllocError> for Misread {
     fn from(_: AllocError) -> Misread {
         Misread::NoMemory

@@ -13,7 +13,7 @@ use protocol::argument::ArgumentType;
 pub const METERED_PLACES: usize = 32;
 
 /// A wire that lies on another. It counts, place by place, what is left until the next flush.
-// No get_mut for the counts: tried, and what a field's array holds after one is not known to the check.
+// No get_mut for the counts: the check does not know what a field's array holds after one.
 #[derive(Drop)]
 pub struct MeteredWire<W> {
     /// the wire below

@@ -80,7 +80,7 @@ impl<'a, 'b> QueueWire<'a, 'b> {
         ensures answer { result ≡ admitted (nat_lt place (length self.old.broken.now)) }
         ensures lines { (p : ℕ) → queue_line self.new p ≡ at_place place (broken_line (nat_lt place (length self.old.broken.now))) (queue_line self.old) p }
     {
-        // no get_mut: tried in three forms, and what a field's slice holds after one is not known to the check
+        // no get_mut: the check does not know what a field's slice holds after one
         if place >= self.broken.len() {
             return Err(Refusal::NoVacancy);
         }
