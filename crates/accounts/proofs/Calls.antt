@@ -1,24 +1,20 @@
 -- Each of the eighteen calls keeps the accounts.
-use Rattle.std.proofs.Common.{◌≡◌, ℕ, zero, suc, ◌+◌, ◌-◌, ◌<◌, ◌≤◌, Bool, true, false, cond, not, eqb, ltb, ◌≢◌, List, [], ◌∷◌, ◌++◌, take, is_some, Some, None, Ok, Err, Option, Result, sym, refl, ap, ◌∙◌, subst, inl, inr, ⊎_elim, arith}
+use Rattle.std.proofs.Common.{◌≡◌, ℕ, suc, ◌+◌, ◌-◌, ◌<◌, Bool, true, false, cond, not, eqb, ltb, ◌≢◌, List, [], ◌++◌, is_some, Some, None, Ok, Err, Option, Result, sym, refl, ap, ◌∙◌, subst, inl, inr, ⊎_elim, arith}
 use Rattle.std.proofs.lemmas.Bool.{cond_both, cond-true, cond-false, cases_Bool, cases_eq, both_ways, false≢true, eqb-false, eq-eqb, ne_eqb, not-true, and_from}
-use Rattle.std.specs.List.{slice_get}
 use Rattle.places.specs.Places.{at}
 use Rattle.map.specs.declared.DataMark.TheVariants.{Number}
-use Rattle.map.specs.declared.fault.InvalidId.{InvalidId}
 use Rattle.map.specs.declared.Object.{Object}
 use Rattle.map.specs.declared.ObjectData.{ObjectData}
 use Rattle.map.specs.declared.ObjectMap.{ObjectMap}
 use Rattle.map.specs.Map.{find_in, new_answer, new_after, next_after}
-use Rattle.map.specs.Named.{lookup_in, with_mark, mark_after}
+use Rattle.map.specs.Named.{with_mark, mark_after}
 use Rattle.laws.proofs.Find.{new_half}
 use Rattle.laws.proofs.Next.{live, last}
-use Rattle.laws.proofs.Lookup.{answers}
-use Rattle.protocol.specs.CoreRows.{core_rows, display}
 use Rattle.protocol.specs.Lawful.{Lawful}
-use Rattle.protocol.specs.Meaning.{event_in, event_of}
-use Rattle.protocol.specs.Model.{MessageModel, RowModel}
+use Rattle.protocol.specs.Meaning.{event_in}
+use Rattle.protocol.specs.Model.{MessageModel}
 use Rattle.protocol.specs.declared.refusal.Refusal.{Refusal}
-use Rattle.protocol.specs.declared.refusal.Refusal.TheVariants.{NoClient, BadSize, TicketOutstanding, ClientKilled, Reserved, NoEvent, BadSignature, NoVacancy}
+use Rattle.protocol.specs.declared.refusal.Refusal.TheVariants.{BadSize, TicketOutstanding, ClientKilled, Reserved, NoEvent, BadSignature, NoVacancy}
 use Rattle.wire.specs.Line.{head_of, write_answer}
 use Rattle.message.specs.Events.{sendable}
 use Rattle.protocol.specs.Kinds.{agree}
@@ -42,9 +38,9 @@ use Rattle.backend.specs.World.{Terms, World, is_live, client_at, named, with_st
 use Rattle.backend.specs.Acts.{Act, Deed, Seat, Run, from, in_world, seat, resumed, kill, flush, new_object, offer, remove}
 use Rattle.backend.specs.Registries.{off_roll, announce, retract}
 use Rattle.backend.specs.Requests.{Buffers}
-use Rattle.backend.specs.Checks.{passing, unless, present, alive, the_client, the_object, Owned, the_owned, the_row}
+use Rattle.backend.specs.Checks.{unless, present, alive, the_client, the_object, Owned, the_owned, the_row}
 use Rattle.backend.specs.Sending.{SendArgument, sent_event, Sendable, send_checks, send_arguments, in_version, reserved_event}
-use Rattle.backend.specs.Calls.{Done, admit_check, admit_act, is_free, roomy, step_check, step_of, step_act, living_of, living, sender_ends, settle_sender, mark_in, child_set, settle_child, settled, plain_act, making_act, create_seat, Creating, create_check, create_act, destroy_check, destroy_act, mark_of, SendingTo, sendable_to, send_check, send_seat, send_run, send_act, handle_of, handle_if, next_handle, postable, post_check, post_seat, post_act, kill_check, kill_act, reason_check, new_global, add_world, add_act, disabled_global, global_put, disable_run, flush_act, Found, lowest_killed, found_id, tidy_end, tidy_act, tidy_at, tidy_done}
+use Rattle.backend.specs.Calls.{Done, admit_check, admit_act, is_free, roomy, step_check, step_of, step_act, living, sender_ends, settle_sender, mark_in, child_set, settle_child, settled, plain_act, making_act, create_seat, Creating, create_check, create_act, destroy_check, destroy_act, mark_of, SendingTo, sendable_to, send_check, send_seat, send_run, send_act, handle_of, handle_if, next_handle, postable, post_check, post_seat, post_act, kill_check, kill_act, reason_check, new_global, add_world, add_act, disabled_global, global_put, disable_run, flush_act, Found, lowest_killed, found_id, tidy_end, tidy_act, tidy_at, tidy_done}
 use Rattle.backend.specs.Perform.{Answer, Outcome, checked, stepped, settled_plain, settled_making}
 use Rattle.accounts.specs.Shown.{Ticket, plain, making, ticket_of, child_of, Paper, papers_shown}
 use Rattle.accounts.specs.Accounts.{acts_of, Paired, comes_back}
@@ -52,11 +48,12 @@ use Rattle.accounts.proofs.Living.{none_living}
 use Rattle.accounts.proofs.Books.{Alive, some_is, not_vacant, state_books}
 use Rattle.accounts.proofs.Turns.{stands_less}
 use Rattle.accounts.proofs.Maps.{new_entry, mark_marked}
-use Rattle.accounts.proofs.Seats.{Good, Waits, Quiet, handle_for, killed_good, tell_good, offer_good, flush_good, fail_good, end_good, remove_good, entry_good, mark_good, quiet_opcode, quiet_sender, lost_map}
+use Rattle.accounts.proofs.Seats.{Good, Quiet, handle_for, killed_good, tell_good, offer_good, flush_good, fail_good, end_good, remove_good, entry_good, mark_good, quiet_opcode, quiet_sender, lost_map}
 use Rattle.accounts.proofs.Kept.{Sender, Kept, apart_from, later_kept, named_same, client_same, admits, vacated_kept}
 use Rattle.accounts.proofs.Steps.{announce_good, stepped_good}
 use Rattle.accounts.proofs.Checked.{ok_is, never_ok, passed, required, presented, the_client_lem, the_object_lem, looked_up, HasOwner, the_owned_lem}
 use Rattle.accounts.proofs.Runs.{On, resume_on, seat_on, act_on, off_roll_on, registry_on, end_on, along_on}
+use Rattle.accounts.proofs.Sought.{display_stays, lowest_killed_lem, living_owner, waits_nobody}
 
 -- after a call: what is kept, and the tickets
 pub record After (g : Option Ticket) (n : ℕ) (ds : List Deed) (ps : List Paper) (o : Outcome) : Type 0 where
@@ -65,70 +62,6 @@ pub record After (g : Option Ticket) (n : ℕ) (ds : List Deed) (ps : List Paper
 
 later_on : {v : Option ObjectId} {n : ℕ} {out : Outstanding} {ds : List Deed} (r : Run) → On v n out ds r → On v (suc n) out ds r
 later_on r on = record { kept = later_kept (omega arith) on.kept; same = on.same }
-
--- No event of the display ends it.
-
-display_row : (rows : List RowModel) → Lawful rows → slice_get rows 1 ≡ Some display
-display_row rows lawful = go rows lawful.begins
-  where
-    go : (xs : List RowModel) → take 4 xs ≡ core_rows → slice_get xs 1 ≡ Some display
-    go [] e = let z : ◌≡◌ {A = ℕ} 0 1 = cc in absurd (omega arith)
-    go (a ∷ []) e = let z : ◌≡◌ {A = ℕ} 0 1 = cc in absurd (omega arith)
-    go (a ∷ b ∷ xs) e = let q : b ≡ display = cc in ap (λ (r : RowModel). Some r) q
-
-display_stays : (rows : List RowModel) → Lawful rows → (opcode : ℕ) (m : MessageModel) → event_in rows 1 opcode ≡ Some m → m.destructor ≡ false
-display_stays rows lawful opcode m e = go opcode (ap (λ (r : Option RowModel). event_of r opcode) (sym (display_row rows lawful)) ∙ e)
-  where
-    go : (i : ℕ) → slice_get display.events i ≡ Some m → m.destructor ≡ false
-    go zero q = ap (λ (x : MessageModel). x.destructor) (sym (some_is _ m q))
-    go (suc zero) q = ap (λ (x : MessageModel). x.destructor) (sym (some_is _ m q))
-    go (suc (suc i)) q = absurd (not_vacant None m q refl)
-
--- The lowest killed client.
-
-lowest_killed_lem : (p : ℕ) (ks : List (Option Client)) (f : Found) → lowest_killed p ks ≡ Some f → (p ≤ f.place) × (at ks (f.place - p) ≡ Some f.client) × (is_live f.client.state ≡ false)
-lowest_killed_lem p [] f e = absurd (not_vacant None f e refl)
-lowest_killed_lem p (None ∷ ks) f e = further p None ks f (lowest_killed_lem (p + 1) ks f e)
-  where
-    further : (p : ℕ) (k : Option Client) (ks : List (Option Client)) (f : Found) → (p + 1 ≤ f.place) × (at ks (f.place - (p + 1)) ≡ Some f.client) × (is_live f.client.state ≡ false)
-        → (p ≤ f.place) × (at (k ∷ ks) (f.place - p) ≡ Some f.client) × (is_live f.client.state ≡ false)
-    further p k ks f r =
-        (omega (arith, r.0), ap (at (k ∷ ks)) (let z : f.place - p ≡ suc (f.place - (p + 1)) = omega (arith, r.0) in z) ∙ r.1, r.2)
-lowest_killed_lem p (Some k ∷ ks) f e = go (λ q. lowest_killed_lem (p + 1) ks f q) (is_live k.state) refl
-  where
-    further : (p + 1 ≤ f.place) × (at ks (f.place - (p + 1)) ≡ Some f.client) × (is_live f.client.state ≡ false)
-        → (p ≤ f.place) × (at (Some k ∷ ks) (f.place - p) ≡ Some f.client) × (is_live f.client.state ≡ false)
-    further r = (omega (arith, r.0), ap (at (Some k ∷ ks)) (let z : f.place - p ≡ suc (f.place - (p + 1)) = omega (arith, r.0) in z) ∙ r.1, r.2)
-
-    go : (lowest_killed (p + 1) ks ≡ Some f → (p + 1 ≤ f.place) × (at ks (f.place - (p + 1)) ≡ Some f.client) × (is_live f.client.state ≡ false))
-        → (b : Bool) → is_live k.state ≡ b → (p ≤ f.place) × (at (Some k ∷ ks) (f.place - p) ≡ Some f.client) × (is_live f.client.state ≡ false)
-    go again true l = further (again (sym (cond-true (is_live k.state) (lowest_killed (p + 1) ks) _ l) ∙ e))
-    go again false d =
-        let q : record { place = p; client = k } ≡ f = some_is (record { place = p; client = k }) f (sym (cond-false (is_live k.state) (lowest_killed (p + 1) ks) _ d) ∙ e) in
-        let here : p ≡ f.place = ap (λ (x : Found). x.place) q in (
-          omega (arith, here),
-          ap (at (Some k ∷ ks)) (let z : f.place - p ≡ 0 = omega (arith, here) in z) ∙ ap (λ (x : Found). Some x.client) q,
-          ap (λ (x : Found). is_live x.client.state) (sym q) ∙ d,
-        )
-
--- Where a handle is live, and where not.
-
-living_owner : (w : World) (x : ObjectId) (o : Owned) → living w x ≡ Some o → HasOwner w x o
-living_owner w x o e = go (the_owned w x) refl e
-  where
-    go : (r : Result Owned Refusal) → the_owned w x ≡ r → living_of r ≡ Some o → HasOwner w x o
-    go (Ok q) f s = subst (λ (y : Owned). HasOwner w x y) (some_is q o s) (the_owned_lem w x q f)
-    go (Err q) f s = absurd (not_vacant None o s refl)
-
--- what waits for data and is not live is nothing
-waits_nobody : (x : ObjectId) (w : World) → living w x ≡ None → (c : ClientId) (k : Client) → client_at w c ≡ Some k → Waits (Some x) c k → Waits None c k
-waits_nobody x w none c k there wait id o l f a =
-    let e : x ≡ handle_for c id o = some_is x (handle_for c id o) (wait id o l f a) in
-    let found : lookup_in k.map (local_of (handle_for c id o)) ≡ Ok o = answers k.map (local_of (handle_for c id o)) o (record { live = f; serial_agrees = refl; row_agrees = refl }) in
-    let owned : the_owned w (handle_for c id o) ≡ Ok (record { client = k; object = o }) =
-    ap (λ (v : Option Client). passing (present v NoClient) (λ (q : Client). passing (the_object q (handle_for c id o)) (λ (y : Object ObjectData). Ok (record { client = q; object = y })))) there
-    ∙ ap (λ (r : Result (Object ObjectData) InvalidId). passing (alive r) (λ (y : Object ObjectData). Ok (record { client = k; object = y }))) found in
-    absurd (not_vacant (living w x) (record { client = k; object = o }) (ap (living w) e ∙ ap living_of owned) none)
 
 module _ (t : Terms) (lawful : Lawful t.rows) (n : ℕ) (ds : List Deed) (w : World) (ps : List Paper) (k : Kept (child_of (ticket_of w.engine.outstanding)) n ds w)
     (pd : Paired ps (ticket_of w.engine.outstanding)) (h : n < 4294967295) where

@@ -9,6 +9,7 @@ pub mod Steps
 pub mod Checked
 pub mod Runs
 pub mod Same
+pub mod Sought
 pub mod Calls
 pub mod Along
 pub mod Ties

@@ -14,6 +14,7 @@ mod TouchedLemmas
 mod WalkLemmas
 mod ToldEnds
 mod TextSizes
+mod ArgumentTexts
 mod StepTexts
 mod KilledLines
 mod Announcements
