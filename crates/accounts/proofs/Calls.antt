@@ -1,6 +1,6 @@
 -- Each of the eighteen calls keeps the accounts.
-use Rattle.std.proofs.Common.{◌≡◌, ℕ, suc, ◌+◌, ◌-◌, ◌<◌, Bool, true, false, cond, not, eqb, ltb, ◌≢◌, List, [], ◌++◌, is_some, Some, None, Ok, Err, Option, Result, sym, refl, ap, ◌∙◌, subst, inl, inr, ⊎_elim, arith}
-use Rattle.std.proofs.lemmas.Bool.{cond_both, cond-true, cond-false, cases_Bool, cases_eq, both_ways, false≢true, eqb-false, eq-eqb, ne_eqb, not-true, and_from}
+use Rattle.std.proofs.Common.{◌≡◌, ℕ, suc, ◌+◌, ◌-◌, ◌<◌, Bool, true, false, cond, not, eqb, ◌≢◌, List, [], ◌++◌, is_some, Some, None, Ok, Err, Option, Result, sym, refl, ap, ◌∙◌, subst, inl, inr, ⊎_elim, arith}
+use Rattle.std.proofs.lemmas.Bool.{cond_both, cases_Bool, cases_eq, both_ways, false≢true, eqb-false, eq-eqb, ne_eqb, not-true, and_from}
 use Rattle.places.specs.Places.{at}
 use Rattle.map.specs.declared.DataMark.TheVariants.{Number}
 use Rattle.map.specs.declared.Object.{Object}
@@ -12,12 +12,10 @@ use Rattle.laws.proofs.Find.{new_half}
 use Rattle.laws.proofs.Next.{live, last}
 use Rattle.protocol.specs.Lawful.{Lawful}
 use Rattle.protocol.specs.Meaning.{event_in}
-use Rattle.protocol.specs.Model.{MessageModel}
 use Rattle.protocol.specs.declared.refusal.Refusal.{Refusal}
-use Rattle.protocol.specs.declared.refusal.Refusal.TheVariants.{BadSize, TicketOutstanding, ClientKilled, Reserved, NoEvent, BadSignature, NoVacancy}
+use Rattle.protocol.specs.declared.refusal.Refusal.TheVariants.{BadSize, TicketOutstanding, ClientKilled, Reserved, NoVacancy}
 use Rattle.wire.specs.Line.{head_of, write_answer}
 use Rattle.message.specs.Events.{sendable}
-use Rattle.protocol.specs.Kinds.{agree}
 use Rattle.backend.specs.declared.ids.ClientId.{ClientId}
 use Rattle.backend.specs.declared.ids.ObjectId.{ObjectId}
 use Rattle.backend.specs.declared.ids.GlobalId.{GlobalId}
@@ -39,7 +37,7 @@ use Rattle.backend.specs.Acts.{Act, Deed, Seat, Run, from, in_world, seat, resum
 use Rattle.backend.specs.Registries.{off_roll, announce, retract}
 use Rattle.backend.specs.Requests.{Buffers}
 use Rattle.backend.specs.Checks.{unless, present, alive, the_client, the_object, Owned, the_owned, the_row}
-use Rattle.backend.specs.Sending.{SendArgument, sent_event, Sendable, send_checks, send_arguments, in_version, reserved_event}
+use Rattle.backend.specs.Sending.{SendArgument, sent_event, Sendable, send_checks, reserved_event}
 use Rattle.backend.specs.Calls.{Done, admit_check, admit_act, is_free, roomy, step_check, step_of, step_act, living, sender_ends, settle_sender, mark_in, child_set, settle_child, settled, plain_act, making_act, create_seat, Creating, create_check, create_act, destroy_check, destroy_act, mark_of, SendingTo, sendable_to, send_check, send_seat, send_run, send_act, handle_of, handle_if, next_handle, postable, post_check, post_seat, post_act, kill_check, kill_act, reason_check, new_global, add_world, add_act, disabled_global, global_put, disable_run, flush_act, Found, lowest_killed, found_id, tidy_end, tidy_act, tidy_at, tidy_done}
 use Rattle.backend.specs.Perform.{Answer, Outcome, checked, stepped, settled_plain, settled_making}
 use Rattle.accounts.specs.Shown.{Ticket, plain, making, ticket_of, child_of, Paper, papers_shown}
@@ -51,9 +49,9 @@ use Rattle.accounts.proofs.Maps.{new_entry, mark_marked}
 use Rattle.accounts.proofs.Seats.{Good, Quiet, handle_for, killed_good, tell_good, offer_good, flush_good, fail_good, end_good, remove_good, entry_good, mark_good, quiet_opcode, quiet_sender, lost_map}
 use Rattle.accounts.proofs.Kept.{Sender, Kept, apart_from, later_kept, named_same, client_same, admits, vacated_kept}
 use Rattle.accounts.proofs.Steps.{announce_good, stepped_good}
-use Rattle.accounts.proofs.Checked.{ok_is, never_ok, passed, required, presented, the_client_lem, the_object_lem, looked_up, HasOwner, the_owned_lem}
+use Rattle.accounts.proofs.Checked.{ok_is, never_ok, passed, required, presented, the_client_lem, looked_up, HasOwner, the_owned_lem}
 use Rattle.accounts.proofs.Runs.{On, resume_on, seat_on, act_on, off_roll_on, registry_on, end_on, along_on}
-use Rattle.accounts.proofs.Sought.{display_stays, lowest_killed_lem, living_owner, waits_nobody}
+use Rattle.accounts.proofs.Sought.{next_alive, Sends, sends, display_stays, lowest_killed_lem, living_owner, waits_nobody}
 
 -- after a call: what is kept, and the tickets
 pub record After (g : Option Ticket) (n : ℕ) (ds : List Deed) (ps : List Paper) (o : Outcome) : Type 0 where
@@ -145,35 +143,7 @@ module _ (t : Terms) (lawful : Lawful t.rows) (n : ℕ) (ds : List Deed) (w : Wo
 
   -- Sending.
 
-  -- an event of a live client, which the checks let through
-  record Sends (x : ObjectId) (opcode : ℕ) (a : Client) (s : Sendable) : Type 0 where
-    lives : Alive x (Some a)
-    not_delete : reserved_event x.row opcode ≡ false
-    event : event_in t.rows x.row opcode ≡ Some s.message
-
-  in_version_lem : (v : ℕ) (o : Option MessageModel) (m : MessageModel) → in_version v o ≡ Ok m → o ≡ Some m
-  in_version_lem v None m e = absurd (never_ok NoEvent m e)
-  in_version_lem v (Some q) m e =
-      ⊎_elim
-      (λ l. absurd (never_ok NoEvent m (sym (cond-true (ltb v q.since) (Err NoEvent) (Ok q) l) ∙ e)))
-      (λ l. ap (λ (y : MessageModel). Some y) (ok_is q m (sym (cond-false (ltb v q.since) (Err NoEvent) (Ok q) l) ∙ e)))
-      (cases_Bool (ltb v q.since))
-
-  sends : (x : ObjectId) (opcode : ℕ) (as' : List SendArgument) (a : Client) (s : Sendable) → send_checks t.rows a x opcode as' ≡ Ok s → Sends x opcode a s
-  sends x opcode as' a s e =
-      let p = passed (the_object a x) _ s e in
-      let q = passed (unless (not (reserved_event x.row opcode)) Reserved) _ s p.2 in
-      let r = passed (in_version p.0.version (event_in t.rows x.row opcode)) _ s q.2 in
-      let u = passed (unless (agree r.0.kinds as') BadSignature) _ s r.2 in
-      let v = passed (send_arguments t.rows x.client a r.0.child r.0.rows r.0.kinds as') _ s u.2 in
-      let same : record { object = p.0; message = r.0 } ≡ s = ok_is (record { object = p.0; message = r.0 }) s v.2 in
-      record {
-        lives = looked_up a x p.0 (the_object_lem a x p.0 p.1);
-        not_delete = not-true (reserved_event x.row opcode) (required (not (reserved_event x.row opcode)) Reserved q.0 q.1);
-        event = in_version_lem p.0.version (event_in t.rows x.row opcode) r.0 r.1 ∙ ap (λ (y : Sendable). Some y.message) same;
-      }
-
-  module _ (x : ObjectId) (opcode : ℕ) (as' : List SendArgument) (a : Client) (there : client_at w x.client ≡ Some a) (s : Sendable) (ok : Sends x opcode a s) where
+  module _ (x : ObjectId) (opcode : ℕ) (as' : List SendArgument) (a : Client) (there : client_at w x.client ≡ Some a) (s : Sendable) (ok : Sends t x opcode a s) where
     sits_there : Good awaits x.client n (acts_of x.client ds) (seat x.client a (from w))
     sits_there = sits x.client a there
 
@@ -222,7 +192,7 @@ module _ (t : Terms) (lawful : Lawful t.rows) (n : ℕ) (ds : List Deed) (w : Wo
       by_checks : (a : Client) → client_at w x.client ≡ Some a → (r : Result Sendable Refusal) → send_checks t.rows a x opcode as' ≡ r → sendable_to a r ≡ Ok to → Calm (send_act x opcode as' w to).run
       by_checks a there (Err f) e q = absurd (never_ok f to q)
       by_checks a there (Ok s) e q =
-          subst (λ (y : SendingTo). Calm (send_act x opcode as' w y).run) (ok_is (record { client = a; what = Some s }) to q) (sent_good x opcode as' a there s (sends x opcode as' a s e))
+          subst (λ (y : SendingTo). Calm (send_act x opcode as' w y).run) (ok_is (record { client = a; what = Some s }) to q) (sent_good x opcode as' a there s (sends t x opcode as' a s e))
 
       go : (a : Client) → client_at w x.client ≡ Some a → (b : Bool) → cond b (sendable_to a (send_checks t.rows a x opcode as')) (Ok (record { client = a; what = None })) ≡ Ok to
           → Calm (send_act x opcode as' w to).run
@@ -285,22 +255,6 @@ module _ (t : Terms) (lawful : Lawful t.rows) (n : ℕ) (ds : List Deed) (w : Wo
           agrees = g.agrees;
         }
 
-    -- the handle that next gives is that of a live object
-    next_alive : (x : ObjectId) → next_handle c a 0 ≡ Some x → (x.client ≡ c) × Alive x (Some a)
-    next_alive x e = go (next_after a.map 0) e
-      where
-        named_there : (id : ℕ) (o : Option (Object ObjectData)) → find_in a.map id ≡ o → handle_of c id o ≡ Some x → (x.client ≡ c) × Alive x (Some a)
-        named_there id None f q = absurd (not_vacant None x q refl)
-        named_there id (Some o) f q =
-            let same : handle_for c id o ≡ x = some_is (handle_for c id o) x q in (
-              ap (λ (y : ObjectId). y.client) (sym same),
-              (o, ap (λ (y : ObjectId). find_in a.map y.id) (sym same) ∙ f, ap (λ (y : ObjectId). y.serial) same, ap (λ (y : ObjectId). y.row) same),
-            )
-
-        go : (v : Option ℕ) → handle_if c a v ≡ Some x → (x.client ≡ c) × Alive x (Some a)
-        go None q = absurd (not_vacant None x q refl)
-        go (Some id) q = named_there id (find_in a.map id) refl q
-
     -- where it gives none, there is no object
     none_next : next_handle c a 0 ≡ None → next_after a.map 0 ≡ None
     none_next e = go (next_after a.map 0) refl e
@@ -329,7 +283,7 @@ module _ (t : Terms) (lawful : Lawful t.rows) (n : ℕ) (ds : List Deed) (w : Wo
     tidy_act_good : (s : ClientState) → (v : Option ObjectId) → next_handle c a 0 ≡ v → Calm (tidy_act c s v a w).run
     tidy_act_good Live v e = still
     tidy_act_good (Untold r) v e = at_client c a there _ told_good
-    tidy_act_good Told (Some x) e = let l = next_alive x e in end_tidy x l.0 l.1 (find_in a.map x.id)
+    tidy_act_good Told (Some x) e = let l = next_alive c a 0 x e in end_tidy x l.0 l.1 (find_in a.map x.id)
     tidy_act_good Told None e =
         let none = none_next e in
         let r = resumed c (flush (seat c a (from w))) (from w) in

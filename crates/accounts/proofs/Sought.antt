@@ -1,29 +1,32 @@
--- What calls look for: an event of the display, the lowest killed client, and where a handle is live.
-use Rattle.std.proofs.Common.{◌≡◌, ℕ, zero, suc, ◌+◌, ◌-◌, ◌≤◌, Bool, true, false, List, [], ◌∷◌, take, Some, None, Ok, Err, Option, Result, sym, refl, ap, ◌∙◌, subst, arith}
-use Rattle.std.proofs.lemmas.Bool.{cond-true, cond-false}
-use Rattle.std.specs.List.{slice_get}
+-- What calls look for: an event of the display, the lowest killed client, where a handle is live, the handle that next gives, and what is sent.
+use Rattle.std.proofs.Common.{◌≡◌, ℕ, suc, ◌+◌, ◌-◌, Bool, true, false, not, ltb, List, [], Some, None, Ok, Err, Option, Result, sym, refl, ap, ◌∙◌, subst, ⊎_elim, arith, zero, ◌≤◌, ◌∷◌, take}
+use Rattle.std.proofs.lemmas.Bool.{cond-true, cond-false, cases_Bool, not-true}
 use Rattle.places.specs.Places.{at}
-use Rattle.map.specs.declared.fault.InvalidId.{InvalidId}
 use Rattle.map.specs.declared.Object.{Object}
 use Rattle.map.specs.declared.ObjectData.{ObjectData}
+use Rattle.map.specs.Map.{find_in, next_after}
 use Rattle.map.specs.Named.{lookup_in}
-use Rattle.laws.proofs.Lookup.{answers}
-use Rattle.protocol.specs.CoreRows.{core_rows, display}
 use Rattle.protocol.specs.Lawful.{Lawful}
 use Rattle.protocol.specs.Meaning.{event_in, event_of}
 use Rattle.protocol.specs.Model.{MessageModel, RowModel}
 use Rattle.protocol.specs.declared.refusal.Refusal.{Refusal}
-use Rattle.protocol.specs.declared.refusal.Refusal.TheVariants.{NoClient}
+use Rattle.protocol.specs.declared.refusal.Refusal.TheVariants.{Reserved, NoEvent, BadSignature, NoClient}
+use Rattle.protocol.specs.Kinds.{agree}
 use Rattle.backend.specs.declared.ids.ClientId.{ClientId}
 use Rattle.backend.specs.declared.ids.ObjectId.{ObjectId}
 use Rattle.backend.specs.declared.client.Client.{Client}
 use Rattle.backend.specs.Ids.{local_of}
-use Rattle.backend.specs.World.{World, is_live, client_at}
-use Rattle.backend.specs.Checks.{passing, present, alive, the_object, Owned, the_owned}
-use Rattle.backend.specs.Calls.{living_of, living, Found, lowest_killed}
-use Rattle.accounts.proofs.Books.{some_is, not_vacant}
-use Rattle.accounts.proofs.Seats.{Waits, handle_for}
-use Rattle.accounts.proofs.Checked.{HasOwner, the_owned_lem}
+use Rattle.backend.specs.World.{Terms, World, is_live, client_at}
+use Rattle.backend.specs.Checks.{unless, present, alive, the_object, Owned, the_owned, passing}
+use Rattle.backend.specs.Sending.{SendArgument, Sendable, send_checks, send_arguments, in_version, reserved_event}
+use Rattle.backend.specs.Calls.{living, handle_of, handle_if, next_handle, Found, lowest_killed, living_of}
+use Rattle.accounts.proofs.Books.{Alive, some_is, not_vacant}
+use Rattle.accounts.proofs.Seats.{handle_for, Waits}
+use Rattle.accounts.proofs.Checked.{ok_is, never_ok, passed, required, the_object_lem, looked_up, HasOwner, the_owned_lem}
+use Rattle.std.specs.List.{slice_get}
+use Rattle.map.specs.declared.fault.InvalidId.{InvalidId}
+use Rattle.laws.proofs.Lookup.{answers}
+use Rattle.protocol.specs.CoreRows.{core_rows, display}
 
 -- No event of the display ends it.
 
@@ -88,3 +91,50 @@ waits_nobody x w none c k there wait id o l f a =
     ap (λ (v : Option Client). passing (present v NoClient) (λ (q : Client). passing (the_object q (handle_for c id o)) (λ (y : Object ObjectData). Ok (record { client = q; object = y })))) there
     ∙ ap (λ (r : Result (Object ObjectData) InvalidId). passing (alive r) (λ (y : Object ObjectData). Ok (record { client = k; object = y }))) found in
     absurd (not_vacant (living w x) (record { client = k; object = o }) (ap (living w) e ∙ ap living_of owned) none)
+
+-- the handle that next gives is that of a live object
+pub next_alive : (c : ClientId) (a : Client) (i : ℕ) (x : ObjectId) → next_handle c a i ≡ Some x → (x.client ≡ c) × Alive x (Some a)
+next_alive c a i x e = go (next_after a.map i) e
+  where
+    named_there : (id : ℕ) (o : Option (Object ObjectData)) → find_in a.map id ≡ o → handle_of c id o ≡ Some x → (x.client ≡ c) × Alive x (Some a)
+    named_there id None f q = absurd (not_vacant None x q refl)
+    named_there id (Some o) f q =
+        let same : handle_for c id o ≡ x = some_is (handle_for c id o) x q in (
+          ap (λ (y : ObjectId). y.client) (sym same),
+          (o, ap (λ (y : ObjectId). find_in a.map y.id) (sym same) ∙ f, ap (λ (y : ObjectId). y.serial) same, ap (λ (y : ObjectId). y.row) same),
+        )
+
+    go : (v : Option ℕ) → handle_if c a v ≡ Some x → (x.client ≡ c) × Alive x (Some a)
+    go None q = absurd (not_vacant None x q refl)
+    go (Some id) q = named_there id (find_in a.map id) refl q
+
+-- Sending.
+
+module _ (t : Terms) where
+  -- an event of a live client, which the checks let through
+  pub record Sends (x : ObjectId) (opcode : ℕ) (a : Client) (s : Sendable) : Type 0 where
+    pub lives : Alive x (Some a)
+    pub not_delete : reserved_event x.row opcode ≡ false
+    pub event : event_in t.rows x.row opcode ≡ Some s.message
+
+  in_version_lem : (v : ℕ) (o : Option MessageModel) (m : MessageModel) → in_version v o ≡ Ok m → o ≡ Some m
+  in_version_lem v None m e = absurd (never_ok NoEvent m e)
+  in_version_lem v (Some q) m e =
+      ⊎_elim
+      (λ l. absurd (never_ok NoEvent m (sym (cond-true (ltb v q.since) (Err NoEvent) (Ok q) l) ∙ e)))
+      (λ l. ap (λ (y : MessageModel). Some y) (ok_is q m (sym (cond-false (ltb v q.since) (Err NoEvent) (Ok q) l) ∙ e)))
+      (cases_Bool (ltb v q.since))
+
+  pub sends : (x : ObjectId) (opcode : ℕ) (as' : List SendArgument) (a : Client) (s : Sendable) → send_checks t.rows a x opcode as' ≡ Ok s → Sends x opcode a s
+  sends x opcode as' a s e =
+      let p = passed (the_object a x) _ s e in
+      let q = passed (unless (not (reserved_event x.row opcode)) Reserved) _ s p.2 in
+      let r = passed (in_version p.0.version (event_in t.rows x.row opcode)) _ s q.2 in
+      let u = passed (unless (agree r.0.kinds as') BadSignature) _ s r.2 in
+      let v = passed (send_arguments t.rows x.client a r.0.child r.0.rows r.0.kinds as') _ s u.2 in
+      let same : record { object = p.0; message = r.0 } ≡ s = ok_is (record { object = p.0; message = r.0 }) s v.2 in
+      record {
+        lives = looked_up a x p.0 (the_object_lem a x p.0 p.1);
+        not_delete = not-true (reserved_event x.row opcode) (required (not (reserved_event x.row opcode)) Reserved q.0 q.1);
+        event = in_version_lem p.0.version (event_in t.rows x.row opcode) r.0 r.1 ∙ ap (λ (y : Sendable). Some y.message) same;
+      }

@@ -42,7 +42,7 @@ use Rattle.accounts.proofs.Kept.{client_same}
 use Rattle.accounts.proofs.Seats.{struck_dead}
 use Rattle.accounts.proofs.Checked.{passed, required, ok_is, the_client_lem}
 use Rattle.engine_laws.specs.Announced.{announcement, announcements, Tells, NewRegistryHearsGlobals}
-use Rattle.engine_laws.proofs.KilledLines.{announce_same, announce_silent}
+use Rattle.engine_laws.proofs.Silence.{announce_same, announce_silent}
 use Rattle.engine_laws.proofs.TextSizes.{row_name}
 
 -- One event.

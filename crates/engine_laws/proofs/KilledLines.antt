@@ -1,5 +1,5 @@
 -- A killed client hears only delete_id events.
-use Rattle.std.proofs.Common.{◌≡◌, ℕ, suc, ◌+◌, Bool, true, false, cond, not, ◌≢◌, eqb, ltb, List, [], ◌∷◌, ◌++◌, Some, None, Ok, Err, Option, Result, sym, refl, ap, ◌∙◌, subst, inl, inr, ⊎_elim, append_assoc, arith}
+use Rattle.std.proofs.Common.{◌≡◌, ℕ, ◌+◌, ◌-◌, Bool, true, false, cond, not, ◌≢◌, eqb, ltb, List, [], ◌∷◌, ◌++◌, Some, None, Ok, Err, Option, Result, sym, refl, ap, ◌∙◌, subst, inl, inr, ⊎_elim, append_assoc, arith}
 use Rattle.std.proofs.lemmas.Bool.{cond_both, cond-true, cond-false, both_ways, eq-eqb, ne_eqb, ltb-true}
 use Rattle.std.proofs.lemmas.List.{append-nil}
 use Rattle.places.specs.Places.{at}
@@ -7,7 +7,7 @@ use Rattle.map.specs.declared.DataMark.{DataMark}
 use Rattle.map.specs.declared.DataMark.TheVariants.{Number}
 use Rattle.map.specs.declared.Object.{Object}
 use Rattle.map.specs.declared.ObjectData.{ObjectData}
-use Rattle.map.specs.Map.{limit, find_in, new_answer, next_after}
+use Rattle.map.specs.Map.{limit, find_in, new_answer}
 use Rattle.protocol.specs.declared.refusal.Refusal.{Refusal}
 use Rattle.protocol.specs.declared.refusal.Refusal.TheVariants.{BadSize, TicketOutstanding, ClientKilled, Reserved, NoVacancy}
 use Rattle.message.specs.Events.{EventModel, sendable}
@@ -27,22 +27,23 @@ use Rattle.backend.specs.declared.ticket.Outstanding.TheVariants as out
 use Rattle.backend.specs.declared.answers.KillAnswer.{KillAnswer}
 use Rattle.backend.specs.Tickets.{same_ticket}
 use Rattle.backend.specs.Ids.{same_client}
-use Rattle.backend.specs.Texts.{name_in}
-use Rattle.backend.specs.Events.{delete_id, global_event, global_remove}
+use Rattle.backend.specs.Events.{delete_id, global_remove}
 use Rattle.backend.specs.World.{Terms, World, is_live, named, client_at, with_state}
-use Rattle.backend.specs.Acts.{Act, entered, ended, took, refused, received, flushed as act_flushed, opened, Seat, Run, from, seat, seated, resumed, kill, lost, heard, offer, tell, flush, remove, end}
-use Rattle.backend.specs.Registries.{visible, announce, retract, visit, along_roll}
+use Rattle.backend.specs.Acts.{Act, entered, ended, took, refused, received, flushed as act_flushed, opened, Seat, Run, from, seat, seated, resumed, kill, lost, heard, offer, flush, remove, end}
+use Rattle.backend.specs.Registries.{announce, retract, visit, along_roll}
 use Rattle.backend.specs.Requests.{Buffers}
 use Rattle.backend.specs.Checks.{unless, present, the_client, the_owned, the_row, the_global, Owned}
 use Rattle.backend.specs.Sending.{SendArgument, sent_event, Sendable, send_checks}
-use Rattle.backend.specs.Calls.{Done, display_id, new_client_id, admit_check, admit_act, roomy, is_free, step_check, step_of, step_act, living_of, living, sender_ends, settle_sender, child_set, settle_child, end_in, making_act, Creating, create_check, create_act, create_seat, destroy_check, destroy_act, mark_of, SendingTo, sendable_to, send_check, send_seat, send_run, send_act, set_act, handle_of, handle_if, next_handle, postable, post_check, post_act, kill_check, kill_act, reason_check, add_check, new_global, add_world, add_act, disabled_global, global_put, disable_run, disable_act, remove_act, flush_act, Found, found_id, lowest_killed, tidy_end, tidy_act, tidy_at, tidy_done}
+use Rattle.backend.specs.Calls.{Done, display_id, new_client_id, admit_check, admit_act, roomy, is_free, step_check, step_of, step_act, living, sender_ends, settle_sender, child_set, settle_child, end_in, making_act, Creating, create_check, create_act, create_seat, destroy_check, destroy_act, mark_of, SendingTo, sendable_to, send_check, send_seat, send_run, send_act, set_act, next_handle, postable, post_check, post_act, kill_check, kill_act, reason_check, add_check, new_global, add_world, add_act, disabled_global, global_put, disable_run, disable_act, remove_act, flush_act, Found, found_id, lowest_killed, tidy_end, tidy_act, tidy_at, tidy_done}
 use Rattle.backend.specs.Perform.{Call, admit, step, settle_plain, settle_making, create, destroy, send, look, set, find, next, post, kill as kill_call, add, disable, remove as remove_call, flush as flush_call, tidy, Answer, admitted, stepped, created, destroyed, sent, looked, changed, found, found_next, posted, killed, added, disabled, removed, flushed, checked, Outcome, perform}
 use Rattle.accounts.specs.Accounts.{acts_of, Killed}
-use Rattle.accounts.proofs.Books.{some_is, not_vacant}
+use Rattle.accounts.proofs.Books.{some_is}
 use Rattle.accounts.proofs.Seats.{struck_dead}
 use Rattle.accounts.proofs.Kept.{same_id, cases_client, acts_own, acts_other, named_is, named_same, client_same, client_other}
-use Rattle.accounts.proofs.Checked.{passed, required, ok_is, never_ok, the_client_lem, HasOwner, the_owned_lem}
+use Rattle.accounts.proofs.Checked.{passed, required, ok_is, never_ok, the_client_lem, the_owned_lem}
 use Rattle.engine_laws.specs.Killed.{IsDeleteId, AllDeleteIds, PutsOnlyDeleteIds, GainsDeleteIds, KilledHearOnlyDeleteId}
+use Rattle.accounts.proofs.Sought.{lowest_killed_lem, living_owner, next_alive}
+use Rattle.engine_laws.proofs.Silence.{tell_same, tell_silent, announce_same, announce_silent}
 
 -- Lists of events and of acts.
 
@@ -189,59 +190,15 @@ module _ (w : World) (c : ClientId) where
         along_hears xs (visit x.client (f x) (client_at r.world x.client) r)
         (visit_killed x (client_at r.world x.client) r refl dead) (visit_hears x (client_at r.world x.client) r refl dead h)
 
--- What is told to a killed client changes nothing.
-
-pub tell_same : (e : EventModel) (s : Seat) → (tell e s).client.serial ≡ s.client.serial
-tell_same e s = cond_both (is_live s.client.state) (offer e s) s (λ (q : Seat). q.client.serial ≡ s.client.serial) (λ _. go (write_answer e s.line)) (λ _. refl)
-  where
-    go : (r : Result (Unit {0}) WriteError) → (lost r s.client).serial ≡ s.client.serial
-    go (Ok u) = refl
-    go (Err x) = refl
-
-pub tell_silent : (e : EventModel) (s : Seat) → is_live s.client.state ≡ false → tell e s ≡ s
-tell_silent e s d = cond-false (is_live s.client.state) (offer e s) s d
-
-pub announce_same : (t : Terms) (x : ObjectId) (n : ℕ) (g : Global) (s : Seat) → (announce t x n g s).client.serial ≡ s.client.serial
-announce_same t x n g s =
-    cond_both (visible t x.client s.client n g) _ s (λ (q : Seat). q.client.serial ≡ s.client.serial) (λ _. tell_same (global_event x.id n (name_in t.rows g.row) g.version) s) (λ _. refl)
-
-pub announce_silent : (t : Terms) (x : ObjectId) (n : ℕ) (g : Global) (s : Seat) → is_live s.client.state ≡ false → announce t x n g s ≡ s
-announce_silent t x n g s d =
-    cond_both (visible t x.client s.client n g) _ s (λ (q : Seat). q ≡ s) (λ _. tell_silent (global_event x.id n (name_in t.rows g.row) g.version) s d) (λ _. refl)
-
 -- The calls.
-
-pub living_owner : (w : World) (x : ObjectId) (o : Owned) → living w x ≡ Some o → HasOwner w x o
-living_owner w x o e = go (the_owned w x) refl e
-  where
-    go : (r : Result Owned Refusal) → the_owned w x ≡ r → living_of r ≡ Some o → HasOwner w x o
-    go (Ok q) f s = subst (λ (y : Owned). HasOwner w x y) (some_is q o s) (the_owned_lem w x q f)
-    go (Err q) f s = absurd (not_vacant None o s refl)
 
 -- the killed client that is found stands at its place
 pub found_there : (p : ℕ) (ks : List (Option Client)) (f : Found) → lowest_killed p ks ≡ Some f → (i : ℕ) × (f.place ≡ p + i) × (at ks i ≡ Some f.client)
-found_there p [] f e = absurd (not_vacant None f e refl)
-found_there p (None ∷ ks) f e = let g = found_there (p + 1) ks f e in (suc g.0, omega (arith, g.1), g.2)
-found_there p (Some k ∷ ks) f e = go (λ q. found_there (p + 1) ks f q) (is_live k.state) e
-  where
-    go : (lowest_killed (p + 1) ks ≡ Some f → (i : ℕ) × (f.place ≡ p + 1 + i) × (at ks i ≡ Some f.client)) → (b : Bool)
-        → cond b (lowest_killed (p + 1) ks) (Some (record { place = p; client = k })) ≡ Some f → (i : ℕ) × (f.place ≡ p + i) × (at (Some k ∷ ks) i ≡ Some f.client)
-    go again true q = let g = again q in (suc g.0, omega (arith, g.1), g.2)
-    go again false q =
-        let s : record { place = p; client = k } ≡ f = some_is (record { place = p; client = k }) f q in
-        let here : p ≡ f.place = ap (λ (x : Found). x.place) s in (0, omega (arith, here), ap (λ (x : Found). Some x.client) s)
+found_there p ks f e = let g = lowest_killed_lem p ks f e in (f.place - p, omega (arith, g.0), g.1)
 
 -- the handles that next finds are the client's own
 pub next_own : (d : ClientId) (k : Client) (i : ℕ) (y : ObjectId) → next_handle d k i ≡ Some y → y.client ≡ d
-next_own d k i y e = at_id (next_after k.map i) e
-  where
-    of_object : (id : ℕ) (o : Option (Object ObjectData)) → handle_of d id o ≡ Some y → y.client ≡ d
-    of_object id None q = absurd (not_vacant None y q refl)
-    of_object id (Some o) q = ap (λ (x : ObjectId). x.client) (sym (some_is (record { client = d; id = id; serial = o.«data».serial; row = o.row }) y q))
-
-    at_id : (id : Option ℕ) → handle_if d k id ≡ Some y → y.client ≡ d
-    at_id None q = absurd (not_vacant None y q refl)
-    at_id (Some id) q = of_object id (find_in k.map id) q
+next_own d k i y e = let g = next_alive d k i y e in g.0
 
 module _ (t : Terms) (w : World) (c : ClientId) (dead : Killed w c) where
   abbrev H : Run → Type 0

@@ -50,7 +50,9 @@ use Rattle.backend.specs.Calls.{mark_in, plain_act, post_seat}
 use Rattle.backend.specs.Checks.{the_object}
 use Rattle.accounts.proofs.Kept.{client_gone, gone_other}
 use Rattle.accounts.proofs.Along.{holds}
-use Rattle.engine_laws.proofs.KilledLines.{apart, one_client, visit_killed, lost_dead, living_owner, found_there, next_own, tell_same, tell_silent, announce_same, announce_silent}
+use Rattle.engine_laws.proofs.KilledLines.{apart, one_client, visit_killed, lost_dead, found_there, next_own}
+use Rattle.engine_laws.proofs.Silence.{tell_same, tell_silent, announce_same, announce_silent}
+use Rattle.accounts.proofs.Sought.{living_owner}
 
 module _ (c : ClientId) where
   abbrev Stays : World → Type 0

@@ -15,6 +15,7 @@ mod WalkLemmas
 mod ToldEnds
 mod TextSizes
 mod ArgumentTexts
+mod Silence
 mod StepTexts
 mod KilledLines
 mod Announcements

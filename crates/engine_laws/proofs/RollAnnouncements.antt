@@ -23,7 +23,8 @@ use Rattle.backend.specs.Perform.{disable, remove, added, disabled, removed, che
 use Rattle.accounts.proofs.Books.{some_is}
 use Rattle.accounts.proofs.Kept.{cases_client, same_client_self, other_client, client_same, client_other}
 use Rattle.engine_laws.specs.Announced.{announcement, Tells, to_registries, HearsOfNew, NewGlobalIsAnnounced, HearsOfGone, GoneGlobalIsRetracted}
-use Rattle.engine_laws.proofs.KilledLines.{apart, tell_same, tell_silent, announce_same, announce_silent}
+use Rattle.engine_laws.proofs.KilledLines.{apart}
+use Rattle.engine_laws.proofs.Silence.{tell_same, tell_silent, announce_same, announce_silent}
 use Rattle.engine_laws.proofs.Announcements.{announcement_sendable, offer_taken, offer_lost, one_less, take_nothing}
 
 -- something is told along the roll, of which killed clients hear nothing

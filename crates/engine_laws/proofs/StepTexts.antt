@@ -55,7 +55,7 @@ use Rattle.accounts.proofs.Books.{not_vacant, some_is}
 use Rattle.accounts.proofs.Kept.{acts_own, client_same}
 use Rattle.accounts.proofs.Steps.{one_new_id}
 use Rattle.accounts.proofs.Walks.{walk_any}
-use Rattle.engine_laws.proofs.KilledLines.{tell_same}
+use Rattle.engine_laws.proofs.Silence.{tell_same}
 use Rattle.accounts.proofs.Checked.{passed, required, ok_is, the_client_lem}
 use Rattle.engine_laws.specs.ErrorTexts.{NarrowRequest, Narrow, FitsIn, error_told, blame, Closing, TellsError, TextsFit, FailuresAreTold}
 use Rattle.engine_laws.proofs.TextSizes.{Sized, Fits, name, row_name, unknown_id_fits, no_memory_fits, malformed_fits, null_interface_fits, entry_fits, unknown_opcode_fits, invalid_method_fits, invalid_binding_fits}
