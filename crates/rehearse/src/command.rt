@@ -95,7 +95,7 @@ pub enum View {
 pub type NewObject = Object<DataMark>;
 
 /// Why a line is no call.
-#[derive(Debug, Drop, Error)]
+#[derive(Clone, Copy, Debug, Error)]
 pub enum Mistake {
     /// the first word is no call's
     // The words of `VERBS` once more: to join them with commas and an `or` takes more lines than the text.
@@ -146,7 +146,7 @@ fn arguments(heap: Global, verb: Verb, words: &mut Words<'_>) -> Result<Call, Mi
         Verb::Put => Call::Wire(put(words)?),
         Verb::Break => Call::Wire(WireCall::Break(words.place()?)),
         Verb::Head => Call::Wire(WireCall::Head(words.place()?)),
-        Verb::Read => Call::Wire(WireCall::Read(words.place()?, signature(heap, words.word()?)?)),
+        Verb::Read => Call::Wire(read(heap, words)?),
         Verb::Write => return Ok(Call::Wire(write(words)?)),
         Verb::Flush => Call::Wire(WireCall::Flush(words.place()?)),
         Verb::Open => Call::Wire(WireCall::Open(words.place()?)),
@@ -173,6 +173,13 @@ fn new_plan(words: &mut Words<'_>) -> Result<Plan, Misread> {
 // A place, a sender and an opcode.
 fn address(words: &mut Words<'_>) -> Result<(usize, u32, u16), Misread> {
     Ok((words.place()?, words.number()?, words.opcode()?))
+}
+
+// The kinds are kept only where nothing stands behind them.
+fn read(heap: Global, words: &mut Words<'_>) -> Result<WireCall, Misread> {
+    let (place, kinds) = (words.place()?, words.word()?);
+    words.end()?;
+    Ok(WireCall::Read(place, signature(heap, kinds)?))
 }
 
 fn put(words: &mut Words<'_>) -> Result<WireCall, Misread> {

@@ -11,40 +11,42 @@ use std::alloc::Global;
 const MESSAGES: usize = 65_534;
 
 /// The interface of the words that are left.
+// Word by word, with no list of them: a line that is no call is then refused at its first mistake, however long it is.
 pub fn interface(heap: Global, words: &mut Words<'_>) -> Result<InterfaceBuf, Misread> {
+    let (name, version) = (words.word()?, words.number()?);
     let mut row = InterfaceBuf {
-        name: Vec::from_slice(heap, words.word()?.as_bytes())?,
-        version: words.number()?,
+        name: Vec::from_slice(heap, name.as_bytes())?,
+        version,
         requests: Vec::new(heap),
         events: Vec::new(heap),
     };
-    let described: Vec<&str> = words.map(|(_, word)| word).collect(heap)?;
-    if described.len() > 6 * MESSAGES {
-        return Err(Misread::Words);
+    // one turn more than messages, in which the line ends
+    for _ in 0..=MESSAGES {
+        let messages = match words.next() {
+            None => return Ok(row),
+            Some((_, "request")) => &mut row.requests,
+            Some((_, "event")) => &mut row.events,
+            Some(_) => return Err(Misread::Words),
+        };
+        messages.push(message(heap, words)?)?;
     }
-    for words in described.chunks(6) {
-        match words {
-            ["request", request @ ..] => row.requests.push(message(heap, request)?)?,
-            ["event", event @ ..] => row.events.push(message(heap, event)?)?,
-            _ => return Err(Misread::Words),
-        }
-    }
-    Ok(row)
+    Err(Misread::Words)
 }
 
-fn message(heap: Global, words: &[&str]) -> Result<MessageBuf, Misread> {
-    let [name, since, ending, child, kinds] = words else {
-        return Err(Misread::Words);
-    };
+fn message(heap: Global, words: &mut Words<'_>) -> Result<MessageBuf, Misread> {
+    let (name, since) = (words.word()?, words.number()?);
+    let is_destructor = is_destructor(words.word()?)?;
+    let child_interface = child_of(words.word()?)?;
+    let kinds = words.word()?;
     let mut message = MessageBuf {
         name: Vec::from_slice(heap, name.as_bytes())?,
         signature: Vec::new(heap),
-        since: number_of(since)?,
-        is_destructor: is_destructor(ending)?,
-        child_interface: child_of(child)?,
+        since,
+        is_destructor,
+        child_interface,
         arg_interfaces: Vec::new(heap),
     };
-    if *kinds != "-" {
+    if kinds != "-" {
         for kind in kinds.split(',') {
             add_kind(&mut message, kind)?;
         }
@@ -69,19 +71,20 @@ fn child_of(word: &str) -> Result<Option<u32>, Misread> {
     }
 }
 
-// Adds an argument of a kind, with its row where it is an object.
+// Adds an argument of a kind, with its row where it is an object. The kinds with no row are looked for first, since most are of these.
 fn add_kind(message: &mut MessageBuf, word: &str) -> Result<(), Misread> {
-    let (name, row) = match word.split_once(':') {
-        Some((name, row)) => (name, Some(number_of(row)?)),
-        None => (word, None),
-    };
+    if let Ok(Kind(kind)) = word.parse() {
+        if matches!(kind, ArgumentType::Object(_)) {
+            return Err(Misread::Words);
+        }
+        return Ok(message.signature.push(kind)?);
+    }
+    let (name, row) = word.split_once(':').ok_or(Misread::Words)?;
     let Kind(kind) = name.parse()?;
-    if matches!(kind, ArgumentType::Object(_)) != row.is_some() {
+    if !matches!(kind, ArgumentType::Object(_)) {
         return Err(Misread::Words);
     }
+    let row = number_of(row)?;
     message.signature.push(kind)?;
-    if let Some(row) = row {
-        message.arg_interfaces.push(row)?;
-    }
-    Ok(())
+    Ok(message.arg_interfaces.push(row)?)
 }

@@ -16,27 +16,22 @@ use wire::Wire;
 use wire::metered::MeteredWire;
 use wire::queued::{Lent, QueueWire, Request};
 
-/// A line of a script.
-#[derive(Drop)]
-pub struct Line {
-    pub number: u64,
-    pub text: String,
-}
-
-/// A script that is run: the session, and the lines that are left.
+/// A script that is run: the session, all lines, and those that are left.
 #[derive(Drop)]
 struct Script<'r, 'b> {
     rt: &'r HostRuntime,
     session: Session,
-    lines: &'b [Line],
+    whole: &'b [String],
+    lines: &'b [String],
 }
 
 /// Answers every line.
-pub fn run(rt: &HostRuntime, lines: &[Line]) -> io::Result<()> {
+pub fn run(rt: &HostRuntime, lines: &[String]) -> io::Result<()> {
     let heap = rt.alloc();
     let mut script = Script {
         rt,
         session: Session::new(heap),
+        whole: lines,
         lines,
     };
     let first = script.answer(|_, _| String::from_str(heap, "no wire was made"))?;
@@ -62,7 +57,7 @@ impl<'r, 'b> Script<'r, 'b> {
         let heap = rt.alloc();
         while let Some((line, rest)) = self.lines.split_first() {
             self.lines = rest;
-            let text = line.text.as_str();
+            let text = line.as_str();
             let answer = match read_call(heap, text) {
                 Ok(None) => continue,
                 Ok(Some(Call::Make(plan))) => return Ok(Some(plan)),
@@ -71,7 +66,8 @@ impl<'r, 'b> Script<'r, 'b> {
                 Ok(Some(Call::Wire(call))) => serve(text, call)?,
                 Err(Mistake::NoMemory) => return Err(AllocError.into()),
                 Err(mistake) => {
-                    let number = line.number;
+                    // counted here, and not kept with each line, so that a long script takes no more memory than its lines
+                    let number = self.whole.len().saturating_sub(rest.len());
                     format!(in heap; "line {number}: {mistake}")?
                 }
             };
@@ -124,7 +120,7 @@ impl<'r, 'b> Script<'r, 'b> {
     }
 }
 
-// What a queue wire borrows. `measure` has the like, of other sizes: a crate for the two would be longer than both.
+// What a queue wire borrows. `measure` has the like, in arrays of its own sizes: a crate for the two would be longer than both.
 #[derive(Drop)]
 struct Memory<'b> {
     requests: Vec<Request<'b>>,

@@ -13,17 +13,13 @@ mod views;
 mod wires;
 mod words;
 
-use lines::Line;
 use std::io;
 
 fn main(rt: HostRuntime) -> io::Result<()> {
     // a request's texts stay in its line until the request is read, so all lines are kept
     let mut script = Vec::new(rt.alloc());
-    for (number, text) in (1u64..).zip(rt.lines(rt.alloc())) {
-        script.push(Line {
-            number,
-            text: text?,
-        })?;
+    for line in rt.lines(rt.alloc()) {
+        script.push(line?)?;
     }
     lines::run(&rt, &script)
 }

@@ -19,8 +19,8 @@ pub trait FarSide<'b> {
 
     fn set_broken(&mut self, place: usize) -> Result<(), Refusal>;
 
-    /// The events that wait at a place, the first one first.
-    fn events(&self, heap: Global, place: usize) -> Result<Vec<Event>, AllocError>;
+    /// The event of an index among those that wait at a place.
+    fn event(&self, place: usize, index: usize) -> Option<Event>;
 }
 
 impl<'a, 'b> FarSide<'b> for QueueWire<'a, 'b> {
@@ -32,11 +32,8 @@ impl<'a, 'b> FarSide<'b> for QueueWire<'a, 'b> {
         QueueWire::set_broken(self, place)
     }
 
-    fn events(&self, heap: Global, place: usize) -> Result<Vec<Event>, AllocError> {
-        // A wire gives its events by index alone, and no place has more of them than cells.
-        (0..CELLS)
-            .map_while(|index| self.event(place, index))
-            .collect(heap)
+    fn event(&self, place: usize, index: usize) -> Option<Event> {
+        QueueWire::event(self, place, index)
     }
 }
 
@@ -50,8 +47,8 @@ impl<'b, W: FarSide<'b>> FarSide<'b> for MeteredWire<W> {
         self.wire.set_broken(place)
     }
 
-    fn events(&self, heap: Global, place: usize) -> Result<Vec<Event>, AllocError> {
-        self.wire.events(heap, place)
+    fn event(&self, place: usize, index: usize) -> Option<Event> {
+        self.wire.event(place, index)
     }
 }
 
@@ -130,8 +127,12 @@ impl<'b, W: Wire + FarSide<'b>> Over<W> {
 
     fn events(&self, place: usize) -> Result<String, AllocError> {
         let mut text = String::new(self.heap);
-        for event in &self.wire.events(self.heap, place)? {
-            if !text.is_empty() {
+        // one after the other, and in no list; no place has more of them than cells
+        for index in 0..CELLS {
+            let Some(event) = self.wire.event(place, index) else {
+                break;
+            };
+            if index > 0 {
                 text.push_str(" ")?;
             }
             let arguments = Arguments {
