@@ -109,7 +109,8 @@ const WL_CALLBACK_INTERFACE: Interface<'static> = Interface {
 };
 
 /// The core, by row number.
-pub(crate) const CORE: [Interface<'static>; CORE_ROWS as usize] = [
+// A static: a constant that holds references is made anew at each use, which took longer than the look-up.
+pub(crate) static CORE: [Interface<'static>; CORE_ROWS as usize] = [
     ANONYMOUS_INTERFACE,
     WL_DISPLAY_INTERFACE,
     WL_REGISTRY_INTERFACE,

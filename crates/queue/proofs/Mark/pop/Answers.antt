@@ -13,7 +13,8 @@ overflow_add-next g c =
 pub overflow_sub-self : goal.overflow_sub-self
 overflow_sub-self g c =
     let m = c.args.self.now in
-    ring_some c.args.cells.now m.head m.count c.requires.1 _ _ (sym c.in_ok-item.ensures)
+    let some = ring_some c.args.cells.now m.head m.count c.requires.1 _ _ (sym c.in_ok-item.ensures) in
+    omega (arith, some)
 
 pub returns-clause-items : goal.returns-clause-items
 returns-clause-items g c =
