@@ -107,12 +107,20 @@ impl Outstanding {
         }
     }
 
+    // Whether this is what is outstanding: all parts agree.
+    #[tactic(auto, using(crate::proofs::Equal::tickets))]
+    fn is(&self, other: Outstanding) -> bool
+        ensures { result ≡ same_ticket self.now other }
+    {
+        *self == other
+    }
+
     /// Takes a ticket back, where it is the one outstanding; else it comes back.
     pub fn take<R: Request>(&mut self, mut ticket: Ticket<R>) -> Result<R, Ticket<R>>
         ensures answer { result ≡ taken_answer self.old (R.outstanding ticket.request) ticket }
         ensures after { self.new ≡ taken_after self.old (R.outstanding ticket.request) }
     {
-        if *self != ticket.request.outstanding() {
+        if !self.is(ticket.request.outstanding()) {
             return Err(ticket);
         }
         *self = Outstanding::Nothing;
